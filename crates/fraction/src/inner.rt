@@ -19,10 +19,7 @@ pub fn ordered(c1: u64, t1: u64, c2: u64, t2: u64) -> Ranking
     }
     let r1 = c1 % t1;
     let r2 = c2 % t2;
-    if r1 == 0 {
-        return compared(r1, r2);
-    }
-    if r2 == 0 {
+    if r1 == 0 || r2 == 0 {
         return compared(r1, r2);
     }
     ordered(t2, r2, t1, r1)

@@ -7,11 +7,33 @@ use native.Mathlib.Omega.{arith}
 use mathlib.Core.Logic.{_≢_}
 use lib.Dec.{eqb}
 use borrow.Author.Tests.{eqb-true, eqb-false, eq-eqb, ne-eqb, le-ltb, lt-ltb, le-leb, lt-leb}
-use Rattle.told.specs.Told.{Told, when, first, firsts}
+use Rattle.told.specs.Told.{Told, refused, says, when, first, firsts, answer, leave}
 
 -- two answers that tell the same are the same, where the telling can be undone
 pub same-answer : {A B : Type 0} (told : A → B) (back : B → A) → ((a : A) → back (told a) ≡ a) → {r s : A} {x : B} → told r ≡ x → told s ≡ x → r ≡ s
 same-answer told back undone {r} {s} p q = sym (undone r) ∙ ap back (p ∙ sym q) ∙ undone s
+
+-- a call whose refusal test answered y says y and leaves its rooms, or, where y is 0, does what it is for
+module _ {A : Type 0} (y refusal : ℕ) (e : y ≡ refusal) where
+  pub says-no : (a : A) → (y ≡ 0 → ⊥) → refused y ≡ answer refusal a
+  says-no a some = go y some e
+    where
+      go : (n : ℕ) → (n ≡ 0 → ⊥) → n ≡ refusal → refused n ≡ answer refusal a
+      go zero none q = absurd (none refl)
+      go (suc n) none q = rw (← q)
+
+  pub says-yes : (a : A) (x : Told A) → y ≡ 0 → x ≡ says a → x ≡ answer refusal a
+  says-yes a x z q = rw (← e, z) q
+
+  pub leaves-held : (held new x : A) → (y ≡ 0 → ⊥) → x ≡ held → x ≡ leave refusal held new
+  leaves-held held new x some q = go y some e
+    where
+      go : (n : ℕ) → (n ≡ 0 → ⊥) → n ≡ refusal → x ≡ leave refusal held new
+      go zero none p = absurd (none refl)
+      go (suc n) none p = rw (← p) q
+
+  pub leaves-new : (held new x : A) → y ≡ 0 → x ≡ new → x ≡ leave refusal held new
+  leaves-new held new x z q = rw (← e, z) q
 
 -- what a function answers that goes through refusals by early returns: past a test that fails, at one that holds, and the same at the last
 pub past : (t : Bool) (n x r : ℕ) → t ≡ false → x ≡ r → x ≡ first (when t n) r
