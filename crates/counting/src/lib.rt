@@ -1,0 +1,1 @@
+// What counting in a weighted row means, and its laws: see specs/. No code.

@@ -1,0 +1,90 @@
+-- Laws of lists by their places, and of rooms written at the front. Assumes nothing.
+use mathlib.Core.Path.{_≡_, refl, sym, ap, _∙_}
+use mathlib.Core.Bool.{Bool, true, false}
+use mathlib.Core.List.{List, [], _∷_, _++_, map}
+use mathlib.Core.Logic.{_≢_}
+use Prim.Native.Nat.{ℕ, zero, suc, _+_, _-_, _≤_, _<_}
+use native.Mathlib.Nat.{le-refl}
+use native.Mathlib.Omega.{arith}
+use borrow.Author.Tests.{eqb-true, eqb-false, ltb-true, ltb-false}
+use lib.Dec.{eqb, ltb}
+use lib.ListN.{length, getD, take, drop, length-append, length-drop, List·getD-append}
+use lib.Seq.{getD-at, getD-append-add, getD-drop, drop-append-seam, take-append-seam, take-suc, take-length, ext-getD}
+use Rattle.listing.specs.Listing.{below, byPlace, onto, sumOver}
+use Rattle.listing.specs.Sums.{sum-below, sum-nil, sum-append}
+
+-- ---- lists by their places
+
+module _ {A : Type 0} (g : ℕ → A) where
+  map-append : (xs ys : List ℕ) → map g (xs ++ ys) ≡ map g xs ++ map g ys
+  map-append [] ys = refl
+  map-append (x ∷ xs) ys = ap (λ (l : List A). g x ∷ l) (map-append xs ys)
+
+  pub place-none : byPlace g 0 ≡ []
+  unfolding byPlace below
+  place-none = refl
+
+  pub place-more : (n : ℕ) → byPlace g (suc n) ≡ byPlace g n ++ (g n ∷ [])
+  unfolding byPlace below
+  place-more n = map-append (below n) (n ∷ [])
+
+  pub place-length : (n : ℕ) → length (byPlace g n) ≡ n
+  place-length zero = ap length place-none
+  place-length (suc n) = rw (place-more n) (omega (arith, length-append (byPlace g n) (g n ∷ []), place-length n))
+
+  pub place-at : (n i : ℕ) (z : A) → i < n → getD (byPlace g n) i z ≡ g i
+  place-at zero i z l = absurd (omega arith)
+  place-at (suc n) i z l = rw (place-more n) (go (λ k. place-at n i z k) (eqb i n) refl)
+    where
+      go : (i < n → getD (byPlace g n) i z ≡ g i) → (t : Bool) → eqb i n ≡ t → getD (byPlace g n ++ (g n ∷ [])) i z ≡ g i
+      go r true q = let e : i ≡ n = eqb-true i n q in getD-at (byPlace g n) (g n) [] z i (place-length n ∙ sym e) ∙ ap g (sym e)
+      go r false q = let e : i ≢ n = eqb-false i n q in List·getD-append (byPlace g n) (g n ∷ []) z i (omega (arith, place-length n)) ∙ r (omega arith)
+
+  -- the only list with these members
+  pub place-only : (z : A) (xs : List A) (n : ℕ) → length xs ≡ n → ((i : ℕ) → i < n → getD xs i z ≡ g i) → xs ≡ byPlace g n
+  place-only z xs n l h = ext-getD z xs _ (l ∙ sym (place-length n)) (λ i k. h i (omega arith) ∙ sym (place-at n i z (omega arith)))
+
+-- a sum over members is a sum over places
+pub sum-places : {A : Type 0} (z : A) (g : A → ℕ) (xs : List A) → sumOver (λ p. g (getD xs p z)) (below (length xs)) ≡ sumOver g xs
+sum-places {A} z g xs = front (length xs) (le-refl _) ∙ ap (sumOver g) (take-length xs)
+  where
+    front : (n : ℕ) → n ≤ length xs → sumOver (λ p. g (getD xs p z)) (below n) ≡ sumOver g (take n xs)
+    front zero h = sum-nil _
+    front (suc n) h =
+        sum-below _ n
+        ∙ ap (λ (k : ℕ). k + g (getD xs n z)) (front n (omega arith))
+        ∙ sym (rw (take-suc xs n z (omega arith)) (sum-append g (take n xs) (getD xs n z ∷ []) ∙ omega arith))
+
+-- ---- rooms written at the front
+
+module _ {A : Type 0} (new old : List A) where
+  pub onto-length : length new ≤ length old → length (onto new old) ≡ length old
+  unfolding onto
+  onto-length h = omega (arith, length-append new (drop (length new) old), length-drop (length new) old)
+
+  pub onto-front : (i : ℕ) (z : A) → i < length new → getD (onto new old) i z ≡ getD new i z
+  unfolding onto
+  onto-front i z h = List·getD-append new (drop (length new) old) z i h
+
+  pub onto-rest : (i : ℕ) (z : A) → length new ≤ i → getD (onto new old) i z ≡ getD old i z
+  unfolding onto
+  onto-rest i z h =
+      let e : length new + (i - length new) ≡ i = omega arith in
+      rw e at (getD-append-add new (drop (length new) old) (i - length new) z ∙ getD-drop (length new) old (i - length new) z)
+
+  pub onto-take : take (length new) (onto new old) ≡ new
+  unfolding onto
+  onto-take = take-append-seam new (drop (length new) old)
+
+  pub onto-drop : drop (length new) (onto new old) ≡ drop (length new) old
+  unfolding onto
+  onto-drop = drop-append-seam new (drop (length new) old)
+
+  -- the only room as long as the old with these members
+  pub onto-only : (z : A) (room : List A) → length new ≤ length old → length room ≡ length old
+      → ((i : ℕ) → i < length new → getD room i z ≡ getD new i z) → ((i : ℕ) → length new ≤ i → getD room i z ≡ getD old i z) → room ≡ onto new old
+  onto-only z room fits l front rest = ext-getD z room _ (l ∙ sym (onto-length fits)) (λ i k. go i (ltb i (length new)) refl)
+    where
+      go : (i : ℕ) (t : Bool) → ltb i (length new) ≡ t → getD room i z ≡ getD (onto new old) i z
+      go i true e = let h = ltb-true i (length new) e in front i h ∙ sym (onto-front i z h)
+      go i false e = let h = ltb-false i (length new) e in rest i h ∙ sym (onto-rest i z h)
