@@ -1,6 +1,6 @@
 -- A count is above 0 exactly where a good filling has the value in place; counts grow with the domains and the limits; the enumeration has each
 -- filling exactly once. Assumes nothing.
-use mathlib.Core.Path.{_≡_, refl, sym, ap, _∙_}
+use mathlib.Core.Path.{_≡_, refl, sym, ap, ap₂, _∙_}
 use mathlib.Core.Bool.{Bool, true, false, _&&_}
 use mathlib.Core.List.{List, [], _∷_}
 use Prim.Native.Nat.{ℕ, zero, suc, _+_, _≤_, _<_}
@@ -13,8 +13,8 @@ use Rattle.told.specs.Told.{when}
 use Rattle.sizes.specs.Sizes.{values}
 use Rattle.listing.specs.Listing.{howMany}
 use Rattle.counting.specs.Counting.{lists, listed, fillings, weigh, within, good, total, count, Filling, GoodFilling, NoNewValue}
-use Rattle.listing.specs.Sums.{and-left, and-right, when-some, when-grows, howMany-sum}
-use Rattle.counting.specs.Domains.{_⇒_, listed-some, listed-one}
+use Rattle.listing.specs.Sums.{never, and-left, and-right, when-both, when-some, when-grows, sum-cong, sum-when, howMany-sum}
+use Rattle.counting.specs.Domains.{_⇒_, pick-listed, listed-some, listed-one}
 use Rattle.counting.specs.Over.{overFillings, over-nil, over-cons, over-grows, filling-at}
 
 -- ---- how many of a row's fillings pass a test
@@ -103,3 +103,38 @@ module _ (ws ds es : List ℕ) (low high low′ high′ : ℕ) (w : NoNewValue d
   pub count-grows : (p v : ℕ) → count ws ds low high p v ≤ count ws es low′ high′ p v
   unfolding count
   count-grows p v = many-grows ds es _ _ w (λ f g. simp (wider f (and-left (good ws low high f) _ g), and-right (good ws low high f) _ g))
+
+-- ---- the enumeration has each filling exactly once, and nothing else
+
+-- the two lists are the same
+abbrev pub same : List ℕ → List ℕ → Bool
+same [] [] = true
+same [] (u ∷ g) = false
+same (v ∷ f) [] = false
+same (v ∷ f) (u ∷ g) = eqb u v && same f g
+
+pub once : (ds f : List ℕ) → Filling ds f → howMany (same f) (fillings ds) ≡ 1
+once [] [] t = howMany-sum (same []) (fillings []) ∙ over-nil _
+once [] (v ∷ f) t = absurd t
+once (d ∷ ds) [] t = absurd t
+once (d ∷ ds) (v ∷ f) t =
+    howMany-sum (same (v ∷ f)) (fillings (d ∷ ds))
+    ∙ over-cons d ds _
+    ∙ sum-cong _ _ (listed d) (λ u.
+    sum-cong _ _ (fillings ds) (λ g. when-both 1 (eqb u v) (same f g))
+    ∙ sum-when (eqb u v) _ (fillings ds)
+    ∙ ap (when (eqb u v)) (sym (howMany-sum (same f) (fillings ds)) ∙ once ds f (t .2)))
+    ∙ pick-listed d (λ u. 1) v (t .0)
+    ∙ ap (λ (b : Bool). when b 1) (t .1)
+
+pub nothing-else : (ds f : List ℕ) → 1 ≤ howMany (same f) (fillings ds) → Filling ds f
+nothing-else ds f h =
+    let r = many→one ds (same f) h in
+    rw (same-is f (r .0) (r .2)) (r .1)
+  where
+    same-is : (f g : List ℕ) → same f g ≡ true → f ≡ g
+    same-is [] [] e = refl
+    same-is [] (u ∷ g) e = absurd (never e)
+    same-is (v ∷ f) [] e = absurd (never e)
+    same-is (v ∷ f) (u ∷ g) e =
+        ap₂ _∷_ (sym (eqb-true u v (and-left (eqb u v) (same f g) e))) (same-is f g (and-right (eqb u v) (same f g) e))

@@ -1,5 +1,5 @@
 pub mod Counting
-pub mod Examples
+pub mod CheckedExamples
 pub mod Domains
 pub mod Over
 pub mod Tables

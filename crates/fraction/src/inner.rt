@@ -2,6 +2,7 @@
 use crate::Ranking;
 ghost use mathlib.Core.Path.{_≡_};
 ghost use Prim.Native.Nat.{_<_, _≤_, _^_, compare};
+ghost use lib.Dec.{ltb};
 ghost use Rattle.told.specs.Told.{says};
 ghost use Rattle.fraction.specs.Rank.{told, order};
 ghost use Rattle.fraction.specs.Share.{shareOf};
@@ -29,13 +30,20 @@ pub fn ordered(c1: u64, t1: u64, c2: u64, t2: u64) -> Ranking
 fn compared(a: u64, b: u64) -> Ranking
     ensures { λ r. ⌜ told r ≡ says (compare a b) ⌝ }
 {
-    if a < b {
+    if less(a, b) {
         return Ranking::Below;
     }
-    if b < a {
+    if less(b, a) {
         return Ranking::Above;
     }
     Ranking::Equal
+}
+
+// The one test that every ranking comes down to.
+fn less(a: u64, b: u64) -> bool
+    ensures { λ r. ⌜ r ≡ ltb a b ⌝ }
+{
+    a < b
 }
 
 // The share of a count in its total as a double, for display: it decides nothing.
