@@ -4,7 +4,7 @@ use mathlib.Core.Bool.{Bool, true, false, not, _&&_}
 use mathlib.Core.List.{List, [], _∷_}
 use mathlib.Core.Logic.{_≢_}
 use Prim.Native.Nat.{ℕ, zero, suc, _+_, _-_, _*_, _/_, _%_, _^_, _≤_, _<_}
-use native.Mathlib.Nat.{add-mul-div-right, le-refl, add-zero, add-comm, pow-succ', zero-mul, mod-eq-of-lt}
+use native.Mathlib.Nat.{zero-div, add-mul-div-right, le-refl, add-zero, add-comm, pow-succ', zero-mul, mod-eq-of-lt}
 use native.Mathlib.Omega.{arith}
 use borrow.Author.Tests.{eqb-true, eqb-false}
 use lib.Dec.{eqb, lit<}
@@ -164,6 +164,17 @@ same-domain d e hd he s =
     sym (low-bits d values ∙ mod-eq-of-lt hd)
     ∙ sum-cong-below _ _ values (λ v l. ap (λ (t : Bool). when t (2 ^ v)) (s v l))
     ∙ low-bits e values ∙ mod-eq-of-lt he
+
+-- zero is the empty domain, and the only one that lists nothing
+pub empty-lists : (v : ℕ) → lists 0 v ≡ false
+empty-lists v = ap (λ (x : ℕ). eqb (x % 2) 1) (zero-div (2 ^ v))
+
+pub empty-only : (d : ℕ) → d < 2 ^ values → ((v : ℕ) → v < values → lists d v ≡ true → ⊥) → d ≡ 0
+empty-only d h n = same-domain d 0 h (pow-pos values) (λ v l. none (lists d v) (n v l) ∙ sym (empty-lists v))
+  where
+    none : (t : Bool) → (t ≡ true → ⊥) → t ≡ false
+    none true k = absurd (k refl)
+    none false k = refl
 
 -- ---- the domain of the listed values that pass a test
 

@@ -43,7 +43,7 @@ over-snoc ds d g =
     ∙ sum-cong _ _ (fillings ds) (λ f. over-cons d [] (λ h. g (f ++ h)) ∙ sum-cong _ _ (listed d) (λ v. over-nil (λ h. g (f ++ (v ∷ h)))))
     ∙ sum-swap (λ f v. g (f ++ (v ∷ []))) (fillings ds) (listed d)
 
--- a filling is as long as the row, and has a listed value at each place
+-- a filling is as long as the row, and has a listed value at each place; and what is so is a filling
 pub filling-length : (ds f : List ℕ) → Filling ds f → length f ≡ length ds
 filling-length [] [] t = refl
 filling-length [] (x ∷ f) t = absurd t
@@ -55,6 +55,13 @@ filling-at [] f t p l = absurd (omega arith)
 filling-at (d ∷ ds) [] t p l = absurd t
 filling-at (d ∷ ds) (x ∷ f) t zero l = (t .0, t .1)
 filling-at (d ∷ ds) (x ∷ f) t (suc p) l = filling-at ds f (t .2) p (le-of-suc-le-suc l)
+
+pub filling-by : (ds f : List ℕ) → length f ≡ length ds
+    → ((p : ℕ) → p < length ds → (getD f p 0 < values) × (lists (getD ds p 0) (getD f p 0) ≡ true)) → Filling ds f
+filling-by [] [] n h = tt
+filling-by [] (x ∷ f) n h = absurd (omega arith)
+filling-by (d ∷ ds) [] n h = absurd (omega arith)
+filling-by (d ∷ ds) (x ∷ f) n h = (h 0 (omega arith) .0, h 0 (omega arith) .1, filling-by ds f (omega arith) (λ p l. h (suc p) (omega arith)))
 
 -- only fillings matter
 pub over-cong : (ds : List ℕ) (g h : List ℕ → ℕ) → ((f : List ℕ) → Filling ds f → g f ≡ h f) → overFillings ds g ≡ overFillings ds h

@@ -1,15 +1,15 @@
 -- Laws of lists by their places, and of rooms written at the front. Assumes nothing.
 use mathlib.Core.Path.{_≡_, refl, sym, ap, _∙_}
 use mathlib.Core.Bool.{Bool, true, false}
-use mathlib.Core.List.{List, [], _∷_, _++_, map}
-use mathlib.Core.Logic.{_≢_}
+use mathlib.Core.List.{List, [], _∷_, _++_, map, List·Memᴰ, List·Memᴰ·not-nil, List·Memᴰ·append-cases, List·Memᴰ·eq-of-singleton}
+use mathlib.Core.Logic.{_≢_, ⊎-elim}
 use Prim.Native.Nat.{ℕ, zero, suc, _+_, _-_, _≤_, _<_}
 use native.Mathlib.Nat.{le-refl}
 use native.Mathlib.Omega.{arith}
 use borrow.Author.Tests.{eqb-true, eqb-false, ltb-true, ltb-false}
 use lib.Dec.{eqb, ltb}
 use lib.ListN.{length, getD, take, drop, length-append, length-drop, List·getD-append}
-use lib.Seq.{getD-at, getD-append-add, getD-drop, drop-append-seam, take-append-seam, take-suc, take-length, ext-getD}
+use lib.Seq.{length-take-le, getD-take, getD-at, getD-append-add, getD-drop, drop-append-seam, take-append-seam, take-suc, take-length, ext-getD}
 use Rattle.listing.specs.Listing.{below, byPlace, onto, sumOver}
 use Rattle.listing.specs.Sums.{sum-below, sum-nil, sum-append}
 
@@ -43,6 +43,19 @@ module _ {A : Type 0} (g : ℕ → A) where
   -- the only list with these members
   pub place-only : (z : A) (xs : List A) (n : ℕ) → length xs ≡ n → ((i : ℕ) → i < n → getD xs i z ≡ g i) → xs ≡ byPlace g n
   place-only z xs n l h = ext-getD z xs _ (l ∙ sym (place-length n)) (λ i k. h i (omega arith) ∙ sym (place-at n i z (omega arith)))
+
+-- each member has a place
+pub place-member : {A : Type 0} (g : ℕ → A) (n : ℕ) (x : A) → List·Memᴰ x (byPlace g n) → (i : ℕ) × (i < n) × (x ≡ g i)
+place-member g zero x m = absurd (List·Memᴰ·not-nil (rw (place-none g) at m))
+place-member g (suc n) x m =
+    ⊎-elim
+    (λ k. let r = place-member g n x k in (r .0, omega (arith, r .1), r .2))
+    (λ k. (n, omega arith, List·Memᴰ·eq-of-singleton k))
+    (List·Memᴰ·append-cases (byPlace g n) (rw (place-more g n) at m))
+
+-- the first n members
+pub place-take : {A : Type 0} (z : A) (xs : List A) (n : ℕ) → n ≤ length xs → take n xs ≡ byPlace (λ i. getD xs i z) n
+place-take z xs n l = place-only _ z (take n xs) n (length-take-le n xs l) (λ i k. getD-take n xs i z k)
 
 -- a sum over members is a sum over places
 pub sum-places : {A : Type 0} (z : A) (g : A → ℕ) (xs : List A) → sumOver (λ p. g (getD xs p z)) (below (length xs)) ≡ sumOver g xs
@@ -79,6 +92,17 @@ module _ {A : Type 0} (new old : List A) where
   pub onto-drop : drop (length new) (onto new old) ≡ drop (length new) old
   unfolding onto
   onto-drop = drop-append-seam new (drop (length new) old)
+
+  -- so a part of n entries at the front is lent and comes back new
+  pub onto-part : (n : ℕ) → length new ≡ n → new ++ drop n old ≡ onto new old
+  unfolding onto
+  onto-part n l = rw (← l)
+
+  -- what comes later is unchanged
+  pub onto-late : (z : A) (n : ℕ) → length new ≤ n → length new ≤ length old → drop n (onto new old) ≡ drop n old
+  onto-late z n h fits =
+      ext-getD z _ _ (rw (length-drop, length-drop, onto-length fits))
+      (λ k l. getD-drop n (onto new old) k z ∙ onto-rest (n + k) z (omega arith) ∙ sym (getD-drop n old k z))
 
   -- the only room as long as the old with these members
   pub onto-only : (z : A) (room : List A) → length new ≤ length old → length room ≡ length old

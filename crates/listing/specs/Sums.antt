@@ -4,6 +4,7 @@ use mathlib.Core.Bool.{Bool, true, false, _&&_}
 use mathlib.Core.List.{List, [], _∷_, _++_, map, flatMap}
 use Prim.Native.Nat.{ℕ, zero, suc, _+_, _*_, _≤_, _<_}
 use native.Mathlib.Nat.{add-zero, zero-add, add-mul, zero-mul, one-mul, le-of-eq, suc-mul}
+use native.Mathlib.Numerals.{add-one}
 use lib.Dec.{leb, eqb}
 use mathlib.Core.Logic.{_≢_}
 use borrow.Author.Tests.{leb-true, leb-false, eqb-true, eqb-false, ne-eqb}
@@ -129,6 +130,10 @@ pub sum-below : (g : ℕ → ℕ) (n : ℕ) → sumOver g (below (suc n)) ≡ su
 unfolding below
 sum-below g n = sum-append g (below n) (n ∷ []) ∙ ap (λ (k : ℕ). sumOver g (below n) + k) (add-zero (g n))
 
+-- one turn of a loop that adds up the terms
+pub sum-turn : (g : ℕ → ℕ) (n : ℕ) → sumOver g (below n) + g n ≡ sumOver g (below (n + 1))
+sum-turn g n = rw add-one (sym (sum-below g n))
+
 pub length-below : (n : ℕ) → length (below n) ≡ n
 unfolding below
 length-below zero = refl
@@ -154,6 +159,15 @@ sum-cong-below g h (suc n) e = sum-below g n ∙ ap₂ _+_ (sum-cong-below g h n
 pub sum-nil : (g : ℕ → ℕ) → sumOver g (below 0) ≡ 0
 unfolding below
 sum-nil g = refl
+
+-- terms of 0 at the end add nothing
+pub sum-short : (g : ℕ → ℕ) (m n : ℕ) → m ≤ n → ((b : ℕ) → m ≤ b → g b ≡ 0) → sumOver g (below m) ≡ sumOver g (below n)
+sum-short g m zero h z = ap (λ (k : ℕ). sumOver g (below k)) (omega arith)
+sum-short g m (suc n) h z = go (λ l. sum-short g m n l z) (leb m n) refl
+  where
+    go : (m ≤ n → sumOver g (below m) ≡ sumOver g (below n)) → (t : Bool) → leb m n ≡ t → sumOver g (below m) ≡ sumOver g (below (suc n))
+    go r true e = let l = leb-true m n e in omega (arith, r l, sum-below g n, z n l)
+    go r false e = ap (λ (k : ℕ). sumOver g (below k)) (let l : n < m = leb-false m n e in omega arith)
 
 -- of terms under a test for one number, that number's
 pub pick-none : (g : ℕ → ℕ) (v n : ℕ) → n ≤ v → sumOver (λ x. when (eqb x v) (g x)) (below n) ≡ 0
