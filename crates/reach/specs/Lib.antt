@@ -1,0 +1,4 @@
+pub mod Reach
+pub mod Layers
+pub mod Halving
+pub mod Uses

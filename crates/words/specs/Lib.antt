@@ -1,0 +1,3 @@
+pub mod Words
+pub mod Bits
+pub mod Sets
