@@ -1,0 +1,4 @@
+pub mod Board
+pub mod BoardLaws
+pub mod Refusals
+pub mod RefusalLaws

@@ -1,0 +1,4 @@
+pub mod Stands
+pub mod Rewritten
+pub mod Reread
+pub mod Round
