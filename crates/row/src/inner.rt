@@ -26,7 +26,7 @@ pub fn fill(
     ensures { λ r. ⌜ now (forward .exit) ≡ onto (forwardTable (now (weights .entry)) (now (domains .entry))) (now (forward .entry)) ⌝ }
     ensures { λ r. ⌜ now (backward .exit) ≡ onto (backwardTable (now (weights .entry)) (now (domains .entry)) low high) (now (backward .entry)) ⌝ }
 {
-    layers::fill(weights, domains, low, high, forward, backward);
+    layers::inner::fill(weights, domains, low, high, forward, backward);
     backward[0]
 }
 

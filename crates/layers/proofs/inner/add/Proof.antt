@@ -7,8 +7,8 @@ use native.Mathlib.Nat.{le-refl}
 use lib.ListN.{length, getD}
 use Rattle.listing.specs.Listing.{Written}
 use Rattle.listing.specs.Writing.{written-none, written-more}
-use Rattle.layers.proofs.add.Statement.{statement}
-use Rattle.layers.proofs.add.Tie as tie
+use Rattle.layers.proofs.inner.add.Statement.{statement}
+use Rattle.layers.proofs.inner.add.Tie as tie
 
 abbrev Inv-loop : tie.InvT-loop
 Inv-loop into₀ from k₀ into k = (k ≤ length from) × (length into ≡ length into₀) × Written (λ j. getD into₀ j 0 + getD from j 0) into₀ into 0 k

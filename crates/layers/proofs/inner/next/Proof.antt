@@ -3,8 +3,8 @@ use borrow.Author.Needs.{needs}
 use Prim.Native.Nat.{_-_}
 use native.Mathlib.Omega.{arith}
 use Rattle.listing.specs.Writing.{written-as}
-use Rattle.layers.proofs.next.Statement.{statement}
-use Rattle.layers.proofs.next.Tie as tie
+use Rattle.layers.proofs.inner.next.Statement.{statement}
+use Rattle.layers.proofs.inner.next.Tie as tie
 
 layer-requires : tie.Need-layer-requires
 layer-requires c κs = search needs

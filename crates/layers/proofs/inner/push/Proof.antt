@@ -6,8 +6,8 @@ use native.Mathlib.Omega.{arith}
 use borrow.Author.Needs.{needs}
 use borrow.Author.Tests.{eq-eqb, ne-eqb}
 use Rattle.layers.specs.StepLaws.{heaviest, moved-far}
-use Rattle.layers.proofs.push.Statement.{statement}
-use Rattle.layers.proofs.push.Tie as tie
+use Rattle.layers.proofs.inner.push.Statement.{statement}
+use Rattle.layers.proofs.inner.push.Tie as tie
 
 cast-if1 : tie.Need-cast-if1
 cast-if1 c = search needs

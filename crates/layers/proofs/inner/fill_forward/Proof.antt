@@ -13,8 +13,8 @@ use Rattle.layers.specs.Tables.{atEntry}
 use Rattle.layers.specs.Steps.{step}
 use Rattle.layers.specs.StepLaws.{nothing, forward-step}
 use Rattle.layers.specs.TableLaws.{forward-fits, written-layer, layer-at, forward-onto}
-use Rattle.layers.proofs.fill_forward.Statement.{statement}
-use Rattle.layers.proofs.fill_forward.Tie as tie
+use Rattle.layers.proofs.inner.fill_forward.Statement.{statement}
+use Rattle.layers.proofs.inner.fill_forward.Tie as tie
 
 abbrev Inv-loop : tie.InvT-loop
 Inv-loop weights domains table₀ i₀ table i = (i ≤ length domains) × (length table ≡ length table₀) × Written (atEntry (forward weights domains)) table₀ table sums (sums * i + sums)

@@ -13,8 +13,8 @@ use Rattle.layers.specs.Tables.{atEntry}
 use Rattle.layers.specs.Steps.{step}
 use Rattle.layers.specs.StepLaws.{backward-step}
 use Rattle.layers.specs.TableLaws.{backward-fits, written-layer, layer-at, backward-onto}
-use Rattle.layers.proofs.fill_backward.Statement.{statement}
-use Rattle.layers.proofs.fill_backward.Tie as tie
+use Rattle.layers.proofs.inner.fill_backward.Statement.{statement}
+use Rattle.layers.proofs.inner.fill_backward.Tie as tie
 
 abbrev Inv-loop : tie.InvT-loop
 Inv-loop weights domains low high table₀ n i₀ table i = (i ≤ length domains) × (length table ≡ length table₀) × Written (atEntry (backward weights domains low high)) table₀ table (sums * i) (sums * length domains)

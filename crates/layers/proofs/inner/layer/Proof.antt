@@ -12,8 +12,8 @@ use Rattle.listing.specs.Sums.{sum-nil, sum-turn, sum-part}
 use Rattle.counting.specs.Counting.{lists}
 use Rattle.counting.specs.Domains.{sum-listed}
 use Rattle.layers.specs.Steps.{moved}
-use Rattle.layers.proofs.layer.Statement.{statement}
-use Rattle.layers.proofs.layer.Tie as tie
+use Rattle.layers.proofs.inner.layer.Statement.{statement}
+use Rattle.layers.proofs.inner.layer.Tie as tie
 
 -- what the value v brings to the number at b
 abbrev brings : List ℕ → ℕ → ℕ → ℕ → ℕ → ℕ → ℕ → ℕ

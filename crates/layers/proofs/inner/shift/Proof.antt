@@ -4,8 +4,8 @@ use native.Mathlib.Omega.{arith}
 use borrow.Author.Needs.{needs}
 use Rattle.sizes.specs.Sizes.{sums}
 use Rattle.layers.specs.StepLaws.{part-fits, part-added}
-use Rattle.layers.proofs.shift.Statement.{statement}
-use Rattle.layers.proofs.shift.Tie as tie
+use Rattle.layers.proofs.inner.shift.Statement.{statement}
+use Rattle.layers.proofs.inner.shift.Tie as tie
 
 add-n : tie.Need-add-n
 add-n c = search needs

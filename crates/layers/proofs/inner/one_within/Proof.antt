@@ -1,7 +1,7 @@
 -- `one_within` meets its contract: each return is at one test and past those before it. Assumes nothing.
 use borrow.Author.Tests.{lt-leb, le-leb}
-use Rattle.layers.proofs.one_within.Statement.{statement}
-use Rattle.layers.proofs.one_within.Tie as tie
+use Rattle.layers.proofs.inner.one_within.Statement.{statement}
+use Rattle.layers.proofs.inner.one_within.Tie as tie
 
 returns : tie.Need-returns
 returns c = simp (lt-leb _ _ (c .if1 .taken))
