@@ -1,5 +1,5 @@
 -- Laws of lists by their places, and of rooms written at the front. Assumes nothing.
-use mathlib.Core.Path.{_≡_, refl, sym, ap, _∙_}
+use mathlib.Core.Path.{_≡_, refl, sym, ap, ap₂, _∙_}
 use mathlib.Core.Bool.{Bool, true, false}
 use mathlib.Core.List.{List, [], _∷_, _++_, map, List·Memᴰ, List·Memᴰ·not-nil, List·Memᴰ·append-cases, List·Memᴰ·eq-of-singleton}
 use mathlib.Core.Logic.{_≢_, ⊎-elim}
@@ -43,6 +43,14 @@ module _ {A : Type 0} (g : ℕ → A) where
   -- the only list with these members
   pub place-only : (z : A) (xs : List A) (n : ℕ) → length xs ≡ n → ((i : ℕ) → i < n → getD xs i z ≡ g i) → xs ≡ byPlace g n
   place-only z xs n l h = ext-getD z xs _ (l ∙ sym (place-length n)) (λ i k. h i (omega arith) ∙ sym (place-at n i z (omega arith)))
+
+-- the same members in each place
+pub place-same : {A : Type 0} (g h : ℕ → A) (n : ℕ) → ((i : ℕ) → i < n → g i ≡ h i) → byPlace g n ≡ byPlace h n
+place-same g h zero e = place-none g ∙ sym (place-none h)
+place-same {A} g h (suc n) e =
+    place-more g n
+    ∙ ap₂ (λ (xs : List A) (x : A). xs ++ (x ∷ [])) (place-same g h n (λ i l. e i (omega arith))) (e n (omega arith))
+    ∙ sym (place-more h n)
 
 -- each member has a place
 pub place-member : {A : Type 0} (g : ℕ → A) (n : ℕ) (x : A) → List·Memᴰ x (byPlace g n) → (i : ℕ) × (i < n) × (x ≡ g i)

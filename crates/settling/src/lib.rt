@@ -1,0 +1,1 @@
+// What settling a board means, and its laws: see specs/. No code.
