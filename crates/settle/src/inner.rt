@@ -10,7 +10,7 @@ ghost use Rattle.sizes.specs.Sizes.{SoundRow};
 ghost use Rattle.listing.specs.Listing.{onto};
 ghost use Rattle.counting.specs.Counting.{size};
 ghost use Rattle.board.specs.RefusalLaws.{SoundLine, SoundBoard};
-ghost use Rattle.settling.specs.Settling.{Inside, Fits, gather, scatter, visit, pass, settle as settled};
+ghost use Rattle.settling.specs.Settling.{Inside, Fits, gather, scatter, visit, pass, settle};
 ghost use Rattle.settling.specs.Boards.{rowWith, rowOf, rowsOf, settleRoom};
 ghost use Rattle.settle.specs.Settle.{tallyOf, boardValues};
 
@@ -100,8 +100,8 @@ fn pass_rows(domains: &mut [u32], board: Board, before: Tally) -> Tally
 // Passes until one strikes nothing.
 fn settle_rows(domains: &mut [u32], board: Board) -> Tally
     requires { ⌜ SoundBoard board × (length (now domains) ≡ board .cells) ⌝ }
-    ensures { λ r. ⌜ now (domains .exit) ≡ settled (rowsOf board) (now (domains .entry)) .left ⌝ }
-    ensures { λ r. ⌜ r ≡ tallyOf (settled (rowsOf board) (now (domains .entry))) ⌝ }
+    ensures { λ r. ⌜ now (domains .exit) ≡ settle (rowsOf board) (now (domains .entry)) .left ⌝ }
+    ensures { λ r. ⌜ r ≡ tallyOf (settle (rowsOf board) (now (domains .entry))) ⌝ }
 {
     let mut tally = Tally {
         passes: 0,

@@ -1,0 +1,2 @@
+pub mod Advising
+pub mod AdvisingLaws

@@ -1,0 +1,2 @@
+pub mod Beat
+pub mod BeatLaws

@@ -1,0 +1,4 @@
+pub mod Advice
+pub mod AdviceLaws
+pub mod Steps
+pub mod StepLaws

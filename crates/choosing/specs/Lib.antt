@@ -1,0 +1,7 @@
+pub mod Choosing
+pub mod CheckedExamples
+pub mod Orders
+pub mod Going
+pub mod GoingLaws
+pub mod CandidateLaws
+pub mod ChoiceLaws

@@ -1,0 +1,1 @@
+// What advising a move means, and its laws: see specs/. No code.
