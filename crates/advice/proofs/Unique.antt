@@ -4,7 +4,7 @@ use denote.Ref.{now}
 use Rattle.told.specs.ToldLaws.{same-answer}
 use Rattle.told.specs.Alone.{NoSecondAnswer}
 use Rattle.advice.specs.Advising.{told, rooms}
-use Rattle.advice.specs.AdvisingLaws.{answerOf, answer-back}
+use Rattle.advice.specs.StepLaws.{answerOf, answer-back}
 use Rattle.advice.proofs.advise.Reads as advise
 use Rattle.advice.proofs.advise.Kinds as advise-kinds
 

@@ -1,2 +1,3 @@
 pub mod Advising
-pub mod AdvisingLaws
+pub mod CheckedExamples
+pub mod StepLaws

@@ -1,15 +1,15 @@
 -- What the tests of two candidates decide. Assumes nothing.
 use mathlib.Core.Path.{_≡_, refl, sym, ap, _∙_}
 use mathlib.Core.Bool.{Bool, true, false, not, cond}
-use mathlib.Core.List.{List, []}
+use mathlib.Core.List.{[]}
 use Prim.Native.Nat.{ℕ, _<_, compare, Ordering, Ordering·lt, Ordering·eq, Ordering·gt}
 use native.Mathlib.Omega.{arith}
 use lib.Dec.{ltb}
 use borrow.Author.Tests.{ltb-true, ltb-false}
-use Rattle.told.specs.Told.{Told, refused, says}
+use Rattle.told.specs.Told.{refused, says}
 use Rattle.listing.specs.Listing.{keep}
 use Rattle.fraction.specs.declared.Ranking.{Ranking}
-use Rattle.fraction.specs.declared.Ranking.the-variants.{Below, Equal, Above, Refused}
+use Rattle.fraction.specs.declared.Ranking.the-variants.{Refused}
 use Rattle.fraction.specs.Rank.{told, order}
 use Rattle.fraction.specs.RankLaws.{compare-lt, compare-gt, compare-same}
 use Rattle.choosing.specs.Choosing.{Candidate, byCell, byValue, byRow, byTies, andThen, isAbove, stands, beats}

@@ -1,9 +1,9 @@
 -- What each step of the choice adds to the best so far. Assumes nothing.
 use mathlib.Core.Path.{_≡_, refl, sym, ap, ap₂, _∙_}
-use mathlib.Core.Bool.{Bool, true, false}
+use mathlib.Core.Bool.{true}
 use mathlib.Core.List.{List, [], flatMap}
 use Prim.Native.Nat.{ℕ, zero, suc, _+_, _/_, _%_, _^_, _≤_, _<_}
-use native.Mathlib.Nat.{le-trans, lt-of-lt-of-le}
+use native.Mathlib.Nat.{le-trans}
 use native.Mathlib.Omega.{arith}
 use lib.Dec.{eqb}
 use lib.ListN.{length, getD}
@@ -20,14 +20,12 @@ use Rattle.board.specs.declared.Row.{Row as Line}
 use Rattle.board.specs.declared.Board.{Board}
 use Rattle.board.specs.Board.{rowAt}
 use Rattle.board.specs.RefusalLaws.{SoundBoard}
-use Rattle.settling.specs.Settling.{Row, _∈_, Fits, Supported, gather, rowTotal, rowCount}
+use Rattle.settling.specs.Settling.{Row, _∈_, Fits, Supported, gather}
 use Rattle.settling.specs.Cells.{gather-length}
 use Rattle.settling.specs.Boards.{rowOf, rowsTo, rowsOf}
-use Rattle.settling.specs.BoardLaws.{sound-fits}
 use Rattle.layers.specs.Tables.{forwardTable, backwardTable}
 use Rattle.layers.specs.TableLaws.{forward-length, backward-length, holds-onto}
-use Rattle.row.specs.Cells.{Filled}
-use Rattle.choosing.specs.Choosing.{Candidate, Ties, noRow, domainAt, ofPlace, ofRow, candidates}
+use Rattle.choosing.specs.Choosing.{Ties, noRow, domainAt, ofPlace, ofRow, candidates}
 use Rattle.choosing.specs.Choosing as choosing
 use Rattle.choosing.specs.Going.{Leader, through}
 use Rattle.choosing.specs.GoingLaws.{through-none, through-end}
@@ -36,9 +34,8 @@ use Rattle.choose.specs.Advice.{Kept}
 use Rattle.choose.specs.AdviceLaws.{filled-kept}
 use Rattle.choose.specs.Steps.{Ready}
 
--- ---- how many values a domain lists
+-- ---- how many values below n a domain lists, and how many in all
 
--- below n
 abbrev pub ones : ℕ → ℕ → ℕ
 ones d n = sumOver (λ v. when (lists d v) 1) (below n)
 
@@ -67,7 +64,7 @@ module _ (o : Ties) (b : Leader) (i : ℕ) (r : Row) (d : List ℕ) (p n : ℕ) 
 
 -- ---- a row whose tables are filled
 
-module _ (r : Row) (d part : List ℕ) (total : ℕ) (forward backward : List ℕ) (ready : Ready r d part total forward backward) where
+module _ {r : Row} {d part : List ℕ} {total : ℕ} {forward backward : List ℕ} (ready : Ready r d part total forward backward) where
   pub ready-place : (p : ℕ) → p < length (r .cells) → p < length part
   ready-place p l = rw (ready .part-is) (omega (arith, gather-length d (r .cells)))
 

@@ -1,21 +1,20 @@
 -- Where each candidate comes from, and what it has over settled domains: a density, and no other of its triple. Assumes nothing.
 use mathlib.Core.Path.{_≡_, refl, sym, ap, ap₂, _∙_}
-use mathlib.Core.Logic.{⊎-elim}
 use mathlib.Core.Bool.{Bool, true, false, cond}
-use mathlib.Core.List.{List, [], _∷_, map, flatMap, List·Memᴰ, List·Memᴰ·not-nil, Memᴰ·map, Memᴰ·of-map}
-use Prim.Native.Nat.{ℕ, suc, _^_, _≤_, _<_}
+use mathlib.Core.List.{List, [], flatMap, List·Memᴰ, List·Memᴰ·not-nil, Memᴰ·map, Memᴰ·of-map}
+use Prim.Native.Nat.{ℕ, _^_, _≤_, _<_}
 use native.Mathlib.Nat.{le-trans, pow-le-pow-right}
 use native.Mathlib.Omega.{arith}
 use lib.Dec.{ltb, lit<, lit≤}
 use lib.ListN.{length, getD}
-use borrow.Author.Tests.{ltb-true, ltb-false, lt-ltb, le-ltb}
+use borrow.Author.Tests.{ltb-true, lt-ltb, le-ltb}
 use Rattle.sizes.specs.Sizes.{values, rowCells}
-use Rattle.listing.specs.Listing.{keep, only, below}
+use Rattle.listing.specs.Listing.{keep, below}
 use Rattle.listing.specs.Members.{in-below, below-small, only-in, in-only, flat-in, in-flat, map-only, at-in}
 use Rattle.counting.specs.Counting.{lists, listed}
 use Rattle.counting.specs.Counts.{count-total}
 use Rattle.counting.specs.Tables.{total-le}
-use Rattle.settling.specs.Settling.{Row, _∈_, Fits, Accepted, gather, rowTotal, rowCount, Consistent}
+use Rattle.settling.specs.Settling.{Row, _∈_, Accepted, gather, rowCount, Consistent}
 use Rattle.settling.specs.Cells.{gather-length}
 use Rattle.choosing.specs.Choosing.{Candidate, noRow, rowAt, domainAt, choices, candidate, ofPlace, ofRow, candidates, Open}
 use Rattle.choosing.specs.Going.{Live, Apart}

@@ -1,5 +1,4 @@
 -- Document 01's advice on its report's board and on the Figure row alone, with either tie order: one table, one statement. Assumes nothing.
-use mathlib.Core.Path.{_≡_, refl}
 use mathlib.Core.Bool.{Bool, true, false, _&&_}
 use mathlib.Core.List.{List, [], _∷_, flatMap}
 use Prim.Native.Nat.{ℕ}

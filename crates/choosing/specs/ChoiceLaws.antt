@@ -1,13 +1,12 @@
 -- The choice keeps what it promises, nothing else does, and how a program comes to it. All over both tie orders. Assumes nothing.
-use mathlib.Core.Path.{_≡_, refl, sym, ap, ap₂, _∙_}
-use mathlib.Core.Bool.{Bool, true, false, cond, _||_}
+use mathlib.Core.Path.{_≡_, refl, sym, ap, _∙_}
+use mathlib.Core.Bool.{Bool, true, false, _||_}
 use mathlib.Core.List.{List, [], _∷_, List·Memᴰ}
 use Prim.Native.Nat.{ℕ, zero, suc, _+_, _^_, _≤_, _<_}
 use native.Mathlib.Nat.{le-of-suc-le-suc}
 use native.Mathlib.Numerals.{add-one}
 use native.Mathlib.Omega.{arith}
 use lib.Dec.{eqb, ltb}
-use lib.Ieee.{Float}
 use lib.ListN.{length, getD, drop}
 use lib.Seq.{drop-cons, drop-length}
 use borrow.Author.Tests.{ltb-true, ltb-false, eqb-true, eq-eqb, ne-eqb}
@@ -16,9 +15,10 @@ use Rattle.listing.specs.Sums.{never}
 use Rattle.listing.specs.Members.{at-in, in-at}
 use Rattle.counting.specs.Counting.{lists, listed}
 use Rattle.counting.specs.Domains.{empty-only}
-use Rattle.settling.specs.Settling.{Row, _∈_, Accepted, Consistent}
+use Rattle.settling.specs.Settling.{Row, _∈_, Accepted, settle, Consistent}
+use Rattle.settling.specs.Demand3.{largest-family, left-accepted}
 use Rattle.fraction.specs.Share.{shareOf}
-use Rattle.choosing.specs.Choosing.{Candidate, Ties, noRow, rowAt, domainAt, candidate, candidates, unbeaten, Choice, dead, settled, advise, someEmpty, advised, choose, SomeEmpty, NoneEmpty, Single, Open, Best, Promised}
+use Rattle.choosing.specs.Choosing.{Candidate, Ties, noRow, rowAt, domainAt, candidate, candidates, Choice, dead, settled, advise, someEmpty, choose, SomeEmpty, NoneEmpty, Single, Open, Best, Promised}
 use Rattle.choosing.specs.Going.{Leader, nobody, leads, through, outcome}
 use Rattle.choosing.specs.GoingLaws.{Finds, finds, best-alone, through-advises}
 use Rattle.choosing.specs.CandidateLaws.{in-listed, listed-in, candidate-there, apart, is-open, live, numbers-fit}
@@ -142,3 +142,8 @@ module _ (o : Ties) (rs : List Row) (d : List ℕ) (accepted : Accepted rs d) (c
       let a = is-open rs d accepted consistent x (best .member) in
       let fit = numbers-fit rs d x a (most (rowAt rs (x .row)) (at-in noRow rs (x .row) (a .row-there))) in
       (fit .0, a .some, fit .1)
+
+-- on a board that is settled first, whatever the domains were
+pub settled-promises : (o : Ties) (rs : List Row) (d : List ℕ) → Accepted rs d → Promised o rs (settle rs d .left) (choose o rs (settle rs d .left))
+settled-promises o rs d accepted =
+    choice-promises o rs (settle rs d .left) (left-accepted rs d accepted) (largest-family rs d accepted .consistent)

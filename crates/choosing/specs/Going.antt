@@ -2,7 +2,7 @@
 use mathlib.Core.Path.{_≡_}
 use mathlib.Core.Bool.{cond}
 use mathlib.Core.List.{List, [], _∷_, List·Memᴰ}
-use Prim.Native.Nat.{ℕ, _<_}
+use Prim.Native.Nat.{_<_}
 use Rattle.fraction.specs.Share.{shareOf}
 use Rattle.choosing.specs.Choosing.{Candidate, Ties, beats, Choice, settled, advise}
 

@@ -1,20 +1,18 @@
 -- `beats` is an order; among candidates that have densities there is one and only one that nothing beats, and going through them finds it.
 -- All over both tie orders. Assumes nothing.
-use mathlib.Core.Path.{_≡_, refl, sym, ap, ap₂, _∙_}
-use mathlib.Core.Logic.{_⊎_, inl, inr, ⊎-elim}
+use mathlib.Core.Path.{_≡_, refl, sym, ap, _∙_}
+use mathlib.Core.Logic.{_⊎_, ⊎-elim}
 use mathlib.Core.Bool.{Bool, true, false, cond, not}
-use mathlib.Core.List.{List, [], _∷_, _++_, map, flatMap, append-nil, append-assoc, List·Memᴰ, List·Memᴰ·head, List·Memᴰ·tail, List·Memᴰ·not-nil, List·Memᴰ·cases-cons, List·Memᴰ·append-cases, List·Memᴰ·eq-of-singleton, Memᴰ·append-left, Memᴰ·append-right}
-use Prim.Native.Nat.{ℕ, suc, _+_, _≤_, _<_, compare, Ordering, Ordering·lt, Ordering·eq, Ordering·gt}
+use mathlib.Core.List.{List, [], _∷_, _++_, flatMap, append-nil, append-assoc, List·Memᴰ, List·Memᴰ·head, List·Memᴰ·tail, List·Memᴰ·not-nil, List·Memᴰ·cases-cons, List·Memᴰ·append-cases, List·Memᴰ·eq-of-singleton, Memᴰ·append-left, Memᴰ·append-right}
+use Prim.Native.Nat.{ℕ, _+_, _≤_, _<_, compare, Ordering, Ordering·lt, Ordering·eq, Ordering·gt}
 use native.Mathlib.Numerals.{add-one}
 use native.Mathlib.Omega.{arith}
 use lib.Dec.{eqb}
-use lib.ListN.{length}
 use borrow.Author.Tests.{eqb-true, eq-eqb}
 use Rattle.listing.specs.Listing.{keep, only, howMany, below}
 use Rattle.listing.specs.Sums.{never}
 use Rattle.listing.specs.Members.{none-pass, each-fails, flat-none, flat-more}
-use Rattle.fraction.specs.Share.{shareOf}
-use Rattle.choosing.specs.Choosing.{Candidate, Ties, toLowest, toHighest, byDensity, byCell, byValue, byRow, byTies, andThen, isAbove, stands, beats, unbeaten, Choice, settled, advise, advised, Best}
+use Rattle.choosing.specs.Choosing.{Candidate, Ties, toLowest, toHighest, byDensity, byCell, byValue, byRow, byTies, andThen, isAbove, stands, beats, unbeaten, settled, advised, Best}
 use Rattle.choosing.specs.Orders.{Lawful, flip, keyed, both, then-eq, numbers, lower, eq-only, Fraction, fractions}
 use Rattle.choosing.specs.Going.{Leader, nobody, leads, raise, through, outcome, Live, Apart}
 

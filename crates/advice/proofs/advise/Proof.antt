@@ -14,7 +14,7 @@ use Rattle.reader.specs.File.{boardIn}
 use Rattle.reader.specs.Reading.{fileRefuses}
 use Rattle.reader.specs.ReadingLaws.{said-read, said-refused}
 use Rattle.advice.specs.Advising.{settledOf, saidOf}
-use Rattle.advice.specs.AdvisingLaws.{front-take, left-length, rooms-sound, read-is-sound, said-is, rooms-are}
+use Rattle.advice.specs.StepLaws.{front-take, left-length, rooms-sound, read-is-sound, said-is, rooms-are}
 use Rattle.advice.proofs.advise.Statement.{statement}
 use Rattle.advice.proofs.advise.Tie as tie
 
@@ -84,11 +84,11 @@ returns-3 c =
     let at-test = at-told .before .before .before in
     let room = at-test .before .before .before .before .before .before .args .room .now in
     let z = taken at-told in
-    let none = sym (past-call _ _ _ _ (at-test .before .rooms-refuse .ensures) (at-test .if1 .left) (sym (z .0))) in
+    let none = past-call _ _ 0 _ (at-test .before .rooms-refuse .ensures) (at-test .if1 .left) (sym (z .0)) in
     let settled = at-settled .settled .ensures in
     let chosen = at-chosen .chosen .ensures in (
-      says-yes _ _ refl _ _ none (ap says (said-is _ _ _ (settled .1) (chosen .0) ∙ ap saidOf (z .1))),
-      leaves-new _ _ refl _ _ _ none (rooms-are (settled .0 ∙ ap (λ (board : Board). onto (settledOf board .left) room) (z .1)) (chosen .1 .0) (chosen .1 .1)),
+      says-yes _ _ none _ _ refl (ap says (said-is _ _ _ (settled .1) (chosen .0) ∙ ap saidOf (z .1))),
+      leaves-new _ _ none _ _ _ refl (rooms-are (settled .0 ∙ ap (λ (board : Board). onto (settledOf board .left) room) (z .1)) (chosen .1 .0) (chosen .1 .1)),
     )
 
 pub advise-spec : {M : Type 1} → statement M

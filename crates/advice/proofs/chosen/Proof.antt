@@ -8,7 +8,7 @@ use lib.ListN.{length, take}
 use lib.Seq.{length-take-le}
 use Rattle.settling.specs.Boards.{rowsOf}
 use Rattle.choosing.specs.Choosing.{toLowest, choose}
-use Rattle.advice.specs.AdvisingLaws.{left-consistent}
+use Rattle.advice.specs.StepLaws.{left-consistent}
 use Rattle.advice.proofs.chosen.Statement.{statement}
 use Rattle.advice.proofs.chosen.Tie as tie
 

@@ -3,7 +3,7 @@ use mathlib.Core.Path.{ap, _∙_}
 use native.Mathlib.Omega.{arith}
 use borrow.Author.Needs.{needs}
 use Rattle.settle.specs.Settle.{tallyOf}
-use Rattle.advice.specs.AdvisingLaws.{settled-onto, settled-of}
+use Rattle.advice.specs.StepLaws.{settled-onto, settled-of}
 use Rattle.advice.proofs.settled.Statement.{statement}
 use Rattle.advice.proofs.settled.Tie as tie
 
@@ -23,8 +23,7 @@ returns c =
     let settle = c .before .before .settle .ensures in
     let stored = c .before .before .before .before .before .before .store .ensures in
     let board = c .before .before .before .before .before .before .before .before .before .args .board in
-    let same = settled-of board _ _ stored in
-    (settled-onto board _ _ _ stored (settle .0), settle .1 ∙ ap tallyOf same)
+    (settled-onto board _ _ _ stored (settle .0), settle .1 ∙ ap tallyOf (settled-of board _ _ stored))
 
 pub settled-spec : {M : Type 1} → statement M
 settled-spec = tie.close (tie.spec store-requires settle-requires same-length returns)

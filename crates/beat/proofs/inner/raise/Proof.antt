@@ -1,5 +1,5 @@
 -- `inner::raise` meets its contract: the better of the two leads, and its total is above 0. Assumes nothing.
-use mathlib.Core.Path.{sym, ap, _∙_}
+use mathlib.Core.Path.{sym, _∙_}
 use mathlib.Core.Bool.{true, false}
 use borrow.Author.Needs.{needs}
 use Rattle.beat.specs.BeatLaws.{raise-first, raise-other, leader-total}

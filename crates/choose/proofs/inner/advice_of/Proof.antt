@@ -1,5 +1,4 @@
 -- `inner::advice_of` meets its contract: a best candidate is advised with its share. Assumes nothing.
-use mathlib.Core.Path.{_≡_, sym, ap, _∙_}
 use borrow.Author.Needs.{needs}
 use Rattle.choose.specs.AdviceLaws.{advises}
 use Rattle.choose.proofs.inner.advice_of.Statement.{statement}

@@ -1,5 +1,5 @@
 -- `inner::chosen` meets its contract: a board with an empty domain is dead; else going through the candidates comes to the choice. Assumes nothing.
-use mathlib.Core.Path.{_≡_, refl, sym, ap, _∙_}
+use mathlib.Core.Path.{refl, sym, ap, _∙_}
 use native.Mathlib.Omega.{arith}
 use borrow.Author.Needs.{needs}
 use Rattle.settling.specs.Settling.{Accepted}

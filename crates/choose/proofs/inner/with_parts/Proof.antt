@@ -1,7 +1,5 @@
 -- `inner::with_parts` meets its contract: the tables are filled for the domains gathered, and past 5,632 entries they are kept. Assumes nothing.
-use mathlib.Core.Path.{_≡_, sym, _∙_}
-use mathlib.Core.List.{List}
-use Prim.Native.Nat.{ℕ}
+use mathlib.Core.Path.{sym, _∙_}
 use borrow.Author.Needs.{needs}
 use Rattle.settling.specs.Settling.{Row}
 use Rattle.settling.specs.Boards.{rowWith}

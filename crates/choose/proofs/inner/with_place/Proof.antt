@@ -7,7 +7,6 @@ use borrow.Author.Needs.{needs}
 use lib.ListN.{length, getD}
 use Rattle.sizes.specs.Sizes.{values}
 use Rattle.listing.specs.Listing.{below}
-use Rattle.settling.specs.Settling.{Row}
 use Rattle.choosing.specs.Choosing.{Candidate}
 use Rattle.choosing.specs.Going.{through}
 use Rattle.choosing.specs.GoingLaws.{through-start, through-turn}
@@ -27,14 +26,17 @@ Inv-loop ties head p names weights domains part forward backward cell domain lea
 abbrev μ-loop : tie.MeasureT-loop
 μ-loop ties head p names weights domains part forward backward cell domain leader₀ v₀ leader v = values - v
 
--- the row that is gone through
-abbrev line : tie.Start Inv-loop μ-loop → Row
-line s = rowWith (s .args .names .now) (s .args .weights .now) (s .args .head .low) (s .args .head .high)
+-- where the function starts
+abbrev start : tie.After-values-in Inv-loop μ-loop → tie.Start Inv-loop μ-loop
+start c = c .before .before .before .before .before .before .before .before .before
 
--- what its place brings, value by value
+-- what the place brings, value by value
 abbrev brings : tie.Start Inv-loop μ-loop → ℕ → List Candidate
-brings s = ofValue (s .args .head .row) (line s) (s .args .domains .now) (s .args .p)
+brings s =
+    let a = s .args in
+    ofValue (a .head .row) (rowWith (a .names .now) (a .weights .now) (a .head .low) (a .head .high)) (a .domains .now) (a .p)
 
+-- its cell is on the board
 named : (s : tie.Start Inv-loop μ-loop) → getD (s .args .names .now) (s .args .p) 0 < length (s .args .domains .now)
 named s = s .pre .0 .fits .inside (s .args .p) (s .pre .1)
 
@@ -54,25 +56,23 @@ values-in-requires : tie.Need-values-in-requires Inv-loop μ-loop
 values-in-requires c κs = search needs
 
 returns : tie.Need-returns Inv-loop μ-loop
-returns c =
-    let s = c .before .before .before .before .before .before .before .before .before .before in
-    (few-values (tiesOf (s .args .ties)) (leaderOf (s .args .best)) (s .args .head .row) (line s) (s .args .domains .now) (s .args .p) _ (c .before .values-in .ensures) (c .if1 .taken), s .pre .2)
+returns c = (few-values _ _ _ _ _ _ _ (c .before .values-in .ensures) (c .if1 .taken), start (c .before) .pre .2)
 
 loop-holds : tie.Need-loop-holds Inv-loop μ-loop
 loop-holds c =
-    let s = c .before .before .before .before .before .before .before .before .before .before in
+    let s = start (c .before) in
     (search needs, through-start _ (brings s) _, s .pre .2)
 
 count-requires : tie.Need-count-requires Inv-loop μ-loop
 count-requires c κs =
-    let s = c .before .before .before .before .before .before .before .before .before .before .before .before in
-    (s .pre .0 .filled, ready-place (line s) (s .args .domains .now) (s .args .part .now) (s .args .head .total) (s .args .forward .now) (s .args .backward .now) (s .pre .0) (s .args .p) (s .pre .1), search needs)
+    let s = start (c .before .before .before) in
+    (s .pre .0 .filled, ready-place (s .pre .0) (s .args .p) (s .pre .1), search needs)
 
 with-listed-requires : tie.Need-with-listed-requires Inv-loop μ-loop
 with-listed-requires c κs =
-    let s = c .before .before .before .before .before .before .before .before .before .before .before .before .before in
-    let l = c .before .before .loop in
-    (omega arith, ready-total (line s) (s .args .domains .now) (s .args .part .now) (s .args .head .total) (s .args .forward .now) (s .args .backward .now) (s .pre .0) (s .args .p) (l .v) (s .pre .1) (omega arith), l .inv .2)
+    let loop = c .before .before in
+    let s = start (loop .before .before) in
+    (omega arith, ready-total (s .pre .0) (s .args .p) (loop .loop .v) (s .pre .1) (omega arith), loop .loop .inv .2)
 
 add-v : tie.Need-add-v Inv-loop μ-loop
 add-v c = search needs
@@ -82,19 +82,17 @@ loop-less c = search needs
 
 loop-again : tie.Need-loop-again Inv-loop μ-loop
 loop-again c =
-    let s = c .before .before .before .before .before .before .before .before .before .before .before .before .before .before in
-    let l = c .before .before .before .loop in
-    let with = c .with-listed .ensures in (
-      omega arith,
-      through-turn _ (brings s) _ (l .v) _ _ (l .inv .1) (ready-value (line s) (s .args .domains .now) (s .args .part .now) (s .args .head .total) (s .args .forward .now) (s .args .backward .now) (s .pre .0) _ _ _ (s .args .head .row) (s .args .p) (l .v) _ (c .before .count .ensures) (with .0)),
-      with .1,
-    )
+    let loop = c .before .before .before in
+    let s = start (loop .before .before) in
+    let v = loop .loop .v in
+    let with = c .with-listed .ensures in
+    (omega arith, through-turn _ (brings s) _ v _ _ (loop .loop .inv .1) (ready-value (s .pre .0) _ _ _ _ _ v _ (c .before .count .ensures) (with .0)), with .1)
 
 returns-2 : tie.Need-returns-2 Inv-loop μ-loop
 returns-2 c =
-    let s = c .before .before .before .before .before .before .before .before .before .before .before .before in
-    let l = c .before .loop in
-    (many-values (tiesOf (s .args .ties)) (leaderOf (s .args .best)) (s .args .head .row) (line s) (s .args .domains .now) (s .args .p) _ (c .before .before .before .values-in .ensures) (omega arith) _ (l .v) (omega arith) (omega arith) (l .inv .1), l .inv .2)
+    let loop = c .before in
+    let number = loop .before .before .values-in .ensures in
+    (many-values _ _ _ _ _ _ _ number (omega arith) _ (loop .loop .v) (omega arith) (omega arith) (loop .loop .inv .1), loop .loop .inv .2)
 
 pub with-place-spec : {M : Type 1} → statement M
 with-place-spec =

@@ -1,20 +1,14 @@
 -- `inner::with_row` meets its contract: the fronts of the row's arrays are the row that its record says. Assumes nothing.
-use mathlib.Core.Path.{_≡_, sym, ap, ap₂, _∙_}
-use mathlib.Core.List.{List}
+use mathlib.Core.Path.{_≡_, sym, subst, _∙_}
 use Prim.Native.Nat.{ℕ, _≤_}
 use native.Mathlib.Omega.{arith}
 use borrow.Author.Needs.{needs}
 use lib.ListN.{length, take, replicate}
 use lib.Seq.{length-take-le}
 use Rattle.sizes.specs.Sizes.{rowCells}
-use Rattle.listing.specs.Places.{place-take}
-use Rattle.settling.specs.Settling.{Row}
-use Rattle.settling.specs.Boards.{rowOf}
-use Rattle.settling.specs.BoardLaws.{sound-fits}
-use Rattle.choosing.specs.Choosing.{ofRow}
-use Rattle.choosing.specs.Going.{through}
-use Rattle.beat.specs.Beat.{tiesOf, leaderOf}
-use Rattle.settling.specs.Boards.{rowWith}
+use Rattle.settling.specs.Settling.{Row, Supported}
+use Rattle.settling.specs.Boards.{rowWith, rowOf}
+use Rattle.settling.specs.BoardLaws.{row-fronts, sound-fits}
 use Rattle.choose.proofs.inner.with_row.Statement.{statement}
 use Rattle.choose.proofs.inner.with_row.Tie as tie
 
@@ -34,9 +28,7 @@ part-length s = length-take-le {A = ℕ} (s .args .line .len) (replicate rowCell
 
 -- the fronts of its arrays are the row that its record says
 fronts : (s : tie.Start) → rowWith (take (s .args .line .len) (s .args .line .names)) (take (s .args .line .len) (s .args .line .weights)) (s .args .line .low) (s .args .line .high) ≡ rowOf (s .args .line)
-fronts s =
-    let line = s .args .line in
-    ap₂ (λ (cs ws : List ℕ). rowWith cs ws (line .low) (line .high)) (place-take 0 (line .names) (line .len) (names-fit s)) (place-take 0 (line .weights) (line .len) (weights-fit s))
+fronts s = row-fronts (s .args .line) (names-fit s) (weights-fit s)
 
 array-share-prefix-names : tie.Need-array-share-prefix-names
 array-share-prefix-names c = names-fit (c .before .before .before .before .before)
@@ -61,13 +53,11 @@ with-parts-requires c κs =
     let s = c .before .before .before .before .before .before .before .before .before .before in
     let line = s .args .line in
     let head = s .pre .0 .head in
-    let names = place-take 0 (line .names) (line .len) (names-fit s) in
-    let weights = place-take 0 (line .weights) (line .len) (weights-fit s) in
     let w = length-take-le (line .len) (line .weights) (weights-fit s) in
     let p = part-length s in (
-      rw (names, weights) (sound-fits _ line (s .pre .0)),
+      rw (fronts s) (sound-fits _ line (s .pre .0)),
       record { some = omega arith; most = omega arith; same = w ∙ sym p; ordered = head .ordered; limit = head .limit },
-      rw (names, weights) (s .pre .1),
+      subst (λ (r : Row). Supported (s .args .domains .now) r) (sym (fronts s)) (s .pre .1),
       s .pre .2,
       s .pre .3,
       s .pre .4,
@@ -82,9 +72,7 @@ same-length-2 c = search needs
 returns : tie.Need-returns
 returns c =
     let with = c .before .before .before .before .before in
-    let s = with .before .before .before .before .before .before .before .before .before .before .before in
-    let a = s .args in
-    (with .with-parts .ensures .0 ∙ ap (λ (r : Row). through (tiesOf (a .ties)) (leaderOf (a .best)) (ofRow (a .i) r (a .domains .now))) (fronts s), with .with-parts .ensures .1)
+    rw (← fronts (with .before .before .before .before .before .before .before .before .before .before .before)) (with .with-parts .ensures)
 
 pub with-row-spec : {M : Type 1} → statement M
 with-row-spec =

@@ -16,12 +16,12 @@ use Rattle.board.specs.RefusalLaws.{SoundBoard, board-sound}
 use Rattle.reader.specs.File.{boardIn}
 use Rattle.reader.specs.Reading.{fileRefuses}
 use Rattle.reader.specs.ReadingLaws.{read-sound}
-use Rattle.settling.specs.Settling.{Row, _∈_, Once, settle, Consistent}
+use Rattle.settling.specs.Settling.{Row, _∈_, Once, Settled, settle, Consistent}
 use Rattle.settling.specs.Settles.{settle-length, settle-largest}
-use Rattle.settling.specs.Boards.{rowsOf}
-use Rattle.settling.specs.BoardLaws.{sound-fits}
-use Rattle.settle.specs.Settle.{tallyOf}
+use Rattle.settling.specs.Boards.{rowsOf, settleRoom}
 use Rattle.settle.specs.declared.Tally.{Tally}
+use Rattle.settle.specs.Settle.{tallyOf}
+use Rattle.settling.specs.BoardLaws.{sound-fits}
 use Rattle.choosing.specs.Choosing.{Choice, toLowest, choose}
 use Rattle.choose.specs.AdviceLaws.{adviceOf, advice-back}
 use Rattle.advice.specs.declared.Answer.{Answer}
@@ -48,19 +48,17 @@ module _ (board : Board) where
   unfolding settledOf
   left-length = settle-length (rowsOf board) (domainsOf board) ∙ domains-length
 
-  -- what settling leaves is written over the domains that were stored
-  pub settled-onto : (room held new : List ℕ) → held ≡ onto (domainsOf board) room
-      → new ≡ onto (settle (rowsOf board) (take (board .cells) held) .left) held → new ≡ onto (settledOf board .left) room
-  unfolding settledOf
-  settled-onto room held new e q =
-      q
-      ∙ ap₂ (λ (d h : List ℕ). onto (settle (rowsOf board) d .left) h) (front-take (domainsOf board) room held (board .cells) domains-length e) e
-      ∙ onto-again (domainsOf board) (settledOf board .left) room (left-length ∙ sym domains-length)
-
-  -- and tallied as the board's
-  pub settled-of : (room held : List ℕ) → held ≡ onto (domainsOf board) room → settle (rowsOf board) (take (board .cells) held) ≡ settledOf board
+  -- the domains that were stored are those that are settled
+  pub settled-of : (room held : List ℕ) → held ≡ onto (domainsOf board) room → settleRoom board held ≡ settledOf board
   unfolding settledOf
   settled-of room held e = ap (settle (rowsOf board)) (front-take (domainsOf board) room held (board .cells) domains-length e)
+
+  -- and what is left is written over them
+  pub settled-onto : (room held new : List ℕ) → held ≡ onto (domainsOf board) room → new ≡ onto (settleRoom board held .left) held → new ≡ onto (settledOf board .left) room
+  settled-onto room held new e q =
+      q
+      ∙ ap₂ (λ (s : Settled) (h : List ℕ). onto (s .left) h) (settled-of room held e) e
+      ∙ onto-again (domainsOf board) (settledOf board .left) room (left-length ∙ sym domains-length)
 
   -- it is consistent
   pub left-consistent : SoundBoard board → Consistent (rowsOf board) (settledOf board .left)
@@ -87,8 +85,8 @@ pub read-is-sound : (file : List ℕ) (board : Board) → fileRefuses file ≡ 0
 read-is-sound file board z e = rw e (board-sound (boardIn file) (read-sound file z))
 
 -- what is said of it, and what the rooms then hold
-pub said-is : (board : Board) (tally : Tally) (choice : Choice) → tally ≡ tallyOf (settledOf board)
-    → choice ≡ choose toLowest (rowsOf board) (settledOf board .left) → _≡_ {A = Said} (record { passes = tally .passes; struck = tally .struck; choice = choice }) (saidOf board)
+pub said-is : (board : Board) (tally : Tally) (choice : Choice) → tally ≡ tallyOf (settledOf board) → choice ≡ choose toLowest (rowsOf board) (settledOf board .left)
+    → _≡_ {A = Said} (record { passes = tally .passes; struck = tally .struck; choice = choice }) (saidOf board)
 said-is board tally choice t q = rw (t, q)
 
 pub rooms-are : {room new forward f backward g : List ℕ} → room ≡ new → forward ≡ f → backward ≡ g → rooms room forward backward ≡ rooms new f g
