@@ -85,9 +85,12 @@ pub read-is-sound : (file : List ℕ) (board : Board) → fileRefuses file ≡ 0
 read-is-sound file board z e = rw e (board-sound (boardIn file) (read-sound file z))
 
 -- what is said of it, and what the rooms then hold
+abbrev said : Tally → Choice → Said
+said tally choice = record { passes = tally .passes; struck = tally .struck; choice = choice }
+
 pub said-is : (board : Board) (tally : Tally) (choice : Choice) → tally ≡ tallyOf (settledOf board) → choice ≡ choose toLowest (rowsOf board) (settledOf board .left)
-    → _≡_ {A = Said} (record { passes = tally .passes; struck = tally .struck; choice = choice }) (saidOf board)
-said-is board tally choice t q = rw (t, q)
+    → said tally choice ≡ saidOf board
+said-is board tally choice t q = ap₂ said t q
 
 pub rooms-are : {room new forward f backward g : List ℕ} → room ≡ new → forward ≡ f → backward ≡ g → rooms room forward backward ≡ rooms new f g
 rooms-are p q r = rw (p, q, r)

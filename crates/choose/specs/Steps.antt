@@ -1,10 +1,22 @@
 -- What the steps of the choice require. Definitions only.
 use mathlib.Core.Path.{_≡_}
 use mathlib.Core.List.{List}
-use Prim.Native.Nat.{ℕ}
+use Prim.Native.Nat.{ℕ, _≤_}
 use lib.ListN.{length}
-use Rattle.settling.specs.Settling.{Row, Fits, gather, rowTotal, Supported}
+use Rattle.sizes.specs.Sizes.{tableSize}
+use Rattle.board.specs.declared.Board.{Board}
+use Rattle.board.specs.RefusalLaws.{SoundBoard}
+use Rattle.settling.specs.Settling.{Row, Fits, gather, rowTotal, Supported, Consistent}
+use Rattle.settling.specs.Boards.{rowsOf}
 use Rattle.row.specs.Cells.{Filled}
+
+-- a sound board, settled domains d, one for each cell, and tables with room for any row
+pub record Choosable (board : Board) (d forward backward : List ℕ) : Type 0 where
+  pub sound : SoundBoard board
+  pub cells : length d ≡ board .cells
+  pub consistent : Consistent (rowsOf board) d
+  pub forward-room : tableSize ≤ length forward
+  pub backward-room : tableSize ≤ length backward
 
 -- a row over settled domains d, with its own domains in part, its total, and tables filled for it
 pub record Ready (r : Row) (d part : List ℕ) (total : ℕ) (forward backward : List ℕ) : Type 0 where

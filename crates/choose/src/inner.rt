@@ -18,8 +18,8 @@ ghost use Prim.Native.Nat.{_≤_, _<_, _^_};
 ghost use lib.ListN.{length};
 ghost use Rattle.sizes.specs.Sizes.{tableSize, SoundRow};
 ghost use Rattle.counting.specs.Counting.{listed};
-ghost use Rattle.board.specs.RefusalLaws.{SoundLine, SoundBoard};
-ghost use Rattle.settling.specs.Settling.{Fits, Supported, Consistent};
+ghost use Rattle.board.specs.RefusalLaws.{SoundLine};
+ghost use Rattle.settling.specs.Settling.{Fits, Supported};
 ghost use Rattle.settling.specs.Boards.{rowWith, rowOf, rowsOf};
 ghost use Rattle.choosing.specs.Choosing.{ofPlace, ofRow, candidates, someEmpty, choose as choice};
 ghost use Rattle.choosing.specs.Going.{nobody, through, outcome};
@@ -27,7 +27,7 @@ ghost use Rattle.beat.specs.Beat.{tiesOf, leaderOf, HasTotal};
 ghost use Rattle.beat.specs.declared.Candidate.{Candidate};
 ghost use Rattle.beat.specs.declared.Leader.the-variants.{Leads};
 ghost use Rattle.choose.specs.Advice.{told, cleared, Kept};
-ghost use Rattle.choose.specs.Steps.{Ready};
+ghost use Rattle.choose.specs.Steps.{Choosable, Ready};
 
 // Chooses a move, and leaves zeros in the first 5,632 entries of the tables.
 pub fn choose(
@@ -37,7 +37,7 @@ pub fn choose(
     forward: &mut [u64],
     backward: &mut [u64],
 ) -> Advice
-    requires { ⌜ SoundBoard board × (length (now domains) ≡ board .cells) × Consistent (rowsOf board) (now domains) × (tableSize ≤ length (now forward)) × (tableSize ≤ length (now backward)) ⌝ }
+    requires { ⌜ Choosable board (now domains) (now forward) (now backward) ⌝ }
     ensures { λ r. ⌜ told r ≡ choice (tiesOf ties) (rowsOf board) (now (domains .entry)) ⌝ }
     ensures { λ r. ⌜ (now (forward .exit) ≡ cleared (now (forward .entry))) × (now (backward .exit) ≡ cleared (now (backward .entry))) ⌝ }
 {
@@ -67,7 +67,7 @@ fn chosen(
     forward: &mut [u64],
     backward: &mut [u64],
 ) -> Advice
-    requires { ⌜ SoundBoard board × (length (now domains) ≡ board .cells) × Consistent (rowsOf board) (now domains) × (tableSize ≤ length (now forward)) × (tableSize ≤ length (now backward)) ⌝ }
+    requires { ⌜ Choosable board (now domains) (now forward) (now backward) ⌝ }
     ensures { λ r. ⌜ told r ≡ choice (tiesOf ties) (rowsOf board) (now (domains .entry)) ⌝ }
     ensures { λ r. ⌜ Kept (now (forward .entry)) (now (forward .exit)) × Kept (now (backward .entry)) (now (backward .exit)) ⌝ }
 {
@@ -117,7 +117,7 @@ fn with_rows(
     forward: &mut [u64],
     backward: &mut [u64],
 ) -> Leader
-    requires { ⌜ SoundBoard board × (length (now domains) ≡ board .cells) × Consistent (rowsOf board) (now domains) × (tableSize ≤ length (now forward)) × (tableSize ≤ length (now backward)) ⌝ }
+    requires { ⌜ Choosable board (now domains) (now forward) (now backward) ⌝ }
     ensures { λ r. ⌜ leaderOf r ≡ through (tiesOf ties) nobody (candidates (rowsOf board) (now (domains .entry))) ⌝ }
     ensures { λ r. ⌜ Kept (now (forward .entry)) (now (forward .exit)) × Kept (now (backward .entry)) (now (backward .exit)) ⌝ }
 {

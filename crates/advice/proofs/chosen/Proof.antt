@@ -22,7 +22,13 @@ slice-aggregate-choose c = sym (cells (c .before .before .before .before))
 choose-requires : tie.Need-choose-requires
 choose-requires c κs =
     let s = c .before .before .before .before .before .before in
-    (s .pre .0, cells s, rw (s .pre .2) (left-consistent (s .args .board) (s .pre .0)), s .pre .3, s .pre .4)
+    record {
+      sound = s .pre .0;
+      cells = cells s;
+      consistent = rw (s .pre .2) (left-consistent (s .args .board) (s .pre .0));
+      forward-room = s .pre .3;
+      backward-room = s .pre .4;
+    }
 
 same-length : tie.Need-same-length
 same-length c = search needs

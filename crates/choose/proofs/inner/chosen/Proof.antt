@@ -13,7 +13,7 @@ use Rattle.choose.proofs.inner.chosen.Statement.{statement}
 use Rattle.choose.proofs.inner.chosen.Tie as tie
 
 accepted : (c : tie.After-shared-slice-known) → Accepted (rowsOf (c .before .args .board)) (c .before .args .domains .now)
-accepted c = sound-accepted (c .before .args .board) (c .before .pre .0) (c .before .args .domains .now) (c .before .pre .1) (λ i. omega (arith, c .shared-slice-known .given i))
+accepted c = sound-accepted (c .before .args .board) (c .before .pre .sound) (c .before .args .domains .now) (c .before .pre .cells) (λ i. omega (arith, c .shared-slice-known .given i))
 
 some-empty-requires : tie.Need-some-empty-requires
 some-empty-requires c κs = search needs
@@ -29,7 +29,7 @@ advice-of-requires c κs =
     let known = c .before .before .before .before .before .before .before .before .before .before .before in
     let s = known .before in
     let o = tiesOf (s .args .ties) in
-    λ x e. leader-fits o (rowsOf (s .args .board)) (s .args .domains .now) (accepted known) (s .pre .2) (rows-short (s .args .board) (s .pre .0)) _ (c .before .before .before .before .with-rows .ensures .0) (candidateOf x) (ap leaderOf e)
+    λ x e. leader-fits o (rowsOf (s .args .board)) (s .args .domains .now) (accepted known) (s .pre .consistent) (rows-short (s .args .board) (s .pre .sound)) _ (c .before .before .before .before .with-rows .ensures .0) (candidateOf x) (ap leaderOf e)
 
 same-length : tie.Need-same-length
 same-length c = search needs
@@ -43,7 +43,7 @@ returns-2 c =
     let s = known .before in
     let with = c .before .before .before .before .before .with-rows .ensures in
     let none = sym (c .before .before .before .before .before .before .before .before .before .some-empty .ensures) ∙ c .before .before .before .before .before .before .before .before .if1 .left in
-    (c .advice-of .ensures ∙ ap outcome (with .0) ∙ sym (by-going (tiesOf (s .args .ties)) (rowsOf (s .args .board)) (s .args .domains .now) (accepted known) (s .pre .2) none), with .1)
+    (c .advice-of .ensures ∙ ap outcome (with .0) ∙ sym (by-going (tiesOf (s .args .ties)) (rowsOf (s .args .board)) (s .args .domains .now) (accepted known) (s .pre .consistent) none), with .1)
 
 pub chosen-spec : {M : Type 1} → statement M
 chosen-spec =

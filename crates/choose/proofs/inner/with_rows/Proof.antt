@@ -41,14 +41,14 @@ mul-line : tie.Need-mul-line Inv-loop μ-loop
 mul-line c = search needs
 
 element-copy-out-line : tie.Need-element-copy-out-line Inv-loop μ-loop
-element-copy-out-line c = omega (arith, c .before .before .before .before .before .pre .0 .sizes .rows-most)
+element-copy-out-line c = omega (arith, c .before .before .before .before .before .pre .sound .sizes .rows-most)
 
 with-row-requires : tie.Need-with-row-requires Inv-loop μ-loop
 with-row-requires c κs =
     let s = c .before .before .before .before .before .before .before .before in
     let l = c .before .before .before .before .loop in
     let board = s .args .t2 in
-    (rw (s .pre .1) (s .pre .0 .lines (l .i) (omega arith)), s .pre .2 _ (row-in (board .lines) (board .rows) (l .i) (omega arith)), l .inv .2, omega arith, omega arith)
+    (rw (s .pre .cells) (s .pre .sound .lines (l .i) (omega arith)), s .pre .consistent _ (row-in (board .lines) (board .rows) (l .i) (omega arith)), l .inv .2, omega arith, omega arith)
 
 add-i : tie.Need-add-i Inv-loop μ-loop
 add-i c = search needs
