@@ -1,4 +1,4 @@
-// The record of a board.
+// The record of a board, laid out as C does, so that programs in other languages can hold one.
 pub mod inner;
 
 use sizes::BOARD_CELLS;
@@ -9,6 +9,7 @@ use sizes::ROW_CELLS;
 pub const MARK: usize = 0x4C53;
 
 // A row of a board. Its first len places hold its cells' numbers and their weights; the others are spare.
+#[repr(C)]
 pub struct Row {
     pub len: usize,
     pub low: usize,
@@ -18,6 +19,7 @@ pub struct Row {
 }
 
 // A board, with any numbers in it. Its first cells places hold domains and its first rows places rows; the others are spare.
+#[repr(C)]
 pub struct Board {
     pub cells: usize,
     pub domains: [u32; BOARD_CELLS],

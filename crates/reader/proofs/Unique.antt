@@ -1,4 +1,4 @@
--- No second answer fits the contract of `read`, its board among it, of `read_at`, `read_from` or `begin`, of `board_counts`, or of `refusal_of`. Assumes nothing.
+-- No second answer fits the contract of `read`, its board among it, of `read_at`, `read_from`, `begin` or `trailer_place`, of `board_counts`, or of `refusal_of`. Assumes nothing.
 use mathlib.Core.Path.{_≡_, refl, sym, ap, _∙_}
 use Prim.Native.Nat.{ℕ}
 use mathlib.Core.List.{List}
@@ -33,6 +33,8 @@ use Rattle.reader.proofs.read_from as read-from
 use Rattle.reader.proofs.begin as begin
 use Rattle.reader.proofs.board_counts.Reads as board-counts
 use Rattle.reader.proofs.board_counts.Kinds as board-counts-kinds
+use Rattle.reader.proofs.trailer_place.Reads as trailer-place
+use Rattle.reader.proofs.trailer_place.Kinds as trailer-place-kinds
 use Rattle.reader.proofs.refusal_of.Reads as refusal-of
 use Rattle.reader.proofs.refusal_of.Kinds as refusal-of-kinds
 
@@ -94,3 +96,6 @@ board-counts-alone κs a x y e f p q = (same-answer toldCounts countsOf counts-b
 
 pub refusal-of-alone : NoSecondAnswer 0 refusal-of-kinds.ps refusal-of-kinds.r refusal-of.Post (λ κs e. tt {0})
 refusal-of-alone κs a x y e f p q = (p ∙ sym q, refl)
+
+pub trailer-place-alone : NoSecondAnswer 1 trailer-place-kinds.ps trailer-place-kinds.r trailer-place.Post (λ κs e. tt {0})
+trailer-place-alone κs a x y e f p q = (p ∙ sym q, refl)

@@ -87,7 +87,7 @@ pub fn read_at(file: &[u8], place: usize) -> Reading
 }
 
 // Where the trailer starts, 0 where the file is shorter.
-fn trailer_place(file: &[u8]) -> usize
+pub fn trailer_place(file: &[u8]) -> usize
     ensures { λ r. ⌜ r ≡ trailer (now (file .entry)) ⌝ }
 {
     let size = file.len();

@@ -81,3 +81,7 @@ countLeaves ws ds low high place value forward backward =
 -- the domains, after the striking call
 abbrev pub strikeLeaves : List ℕ → List ℕ → ℕ → ℕ → List ℕ → List ℕ → List ℕ
 strikeLeaves ws ds low high forward backward = leave (rowRefuses ws ds low high forward backward) ds (strike ws ds low high)
+
+-- the domains with both tables
+abbrev pub struckRooms : List ℕ → Tables → List ℕ × Tables
+struckRooms domains tables = (domains, tables)
