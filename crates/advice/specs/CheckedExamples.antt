@@ -8,7 +8,7 @@ use Rattle.listing.specs.Listing.{howMany, below, byPlace}
 use Rattle.counting.specs.Counting.{listed, domainOf, size, fillings, weigh, total, count, kept, strike}
 use Rattle.board.specs.Board.{filled}
 use Rattle.board.specs.Refusals.{sizesRefuse, headRefuses, repeatRefuses, pairRefuses}
-use Rattle.reader.specs.File.{rowIn, place, boardIn}
+use Rattle.reader.specs.File.{rowIn, rowPlace, boardIn}
 use Rattle.reader.specs.Reading.{trailerRefuses, rowInRefuses, rowsRefuse, fileRefuses}
 use Rattle.settling.specs.Settling.{gather, scatter, visit, pass, after, passesAtMost, passesMade, settle}
 use Rattle.fraction.specs.Rank.{order}
@@ -35,5 +35,5 @@ abbrev holds : Said → Bool
 holds said = eqb (fileRefuses file) 0 && eqb (said .passes) 2 && eqb (said .struck) 4 && names 0 1 0 1 2 (said .choice)
 
 pub report-holds : T (holds (saidOf (boardIn file)))
-unfolding firsts howMany below byPlace listed domainOf size flatMap fillings weigh total count kept strike filled sizesRefuse headRefuses repeatRefuses pairRefuses rowIn place boardIn trailerRefuses rowInRefuses rowsRefuse fileRefuses gather scatter visit pass after passesAtMost passesMade settle order choices ofPlace ofRow candidates byTies stands unbeaten someEmpty choose settledOf
+unfolding firsts howMany below byPlace listed domainOf size flatMap fillings weigh total count kept strike filled sizesRefuse headRefuses repeatRefuses pairRefuses rowIn rowPlace boardIn trailerRefuses rowInRefuses rowsRefuse fileRefuses gather scatter visit pass after passesAtMost passesMade settle order choices ofPlace ofRow candidates byTies stands unbeaten someEmpty choose settledOf
 report-holds = tt

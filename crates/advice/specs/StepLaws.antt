@@ -12,7 +12,8 @@ use Rattle.listing.specs.Listing.{onto}
 use Rattle.listing.specs.Places.{place-length, place-member, onto-take, onto-drop}
 use Rattle.board.specs.declared.Board.{Board}
 use Rattle.board.specs.Board.{rowAt}
-use Rattle.board.specs.RefusalLaws.{SoundBoard, board-sound}
+use Rattle.board.specs.Sound.{SoundBoard}
+use Rattle.board.specs.RefusalLaws.{board-sound}
 use Rattle.reader.specs.File.{boardIn}
 use Rattle.reader.specs.Reading.{fileRefuses}
 use Rattle.reader.specs.ReadingLaws.{read-sound}

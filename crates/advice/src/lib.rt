@@ -15,7 +15,7 @@ ghost use Prim.Native.Nat.{_≤_};
 ghost use lib.ListN.{length, take};
 ghost use Rattle.sizes.specs.Sizes.{boardCells, tableSize};
 ghost use Rattle.listing.specs.Listing.{onto};
-ghost use Rattle.board.specs.RefusalLaws.{SoundBoard};
+ghost use Rattle.board.specs.Sound.{SoundBoard};
 ghost use Rattle.settling.specs.Boards.{rowsOf};
 ghost use Rattle.settle.specs.Settle.{tallyOf};
 ghost use Rattle.choosing.specs.Choosing.{toLowest, choose as choice};

@@ -1,5 +1,6 @@
 // Strikes random rows by counting and by reachable sums, and prints in how many both agree in every domain and in the number struck.
 // Arguments: ROWS SEED. With fewer, 10,000 rows and the seed 1.
+use digits::number_of;
 use libc::STDOUT_FILENO;
 use row::Answer;
 use sizes::HIGHEST;
@@ -48,24 +49,6 @@ fn main() {
     let rows = number_of(&word[..n]);
     let n = os::arg(2, &mut word);
     report(rows, number_of(&word[..n]));
-}
-
-// The number that a word spells.
-fn number_of(word: &[u8]) -> u64 {
-    let mut n: u64 = 0;
-    let mut i: usize = 0;
-    while i < word.len() {
-        n = with_digit(n, word[i]);
-        i += 1;
-    }
-    n
-}
-
-fn with_digit(n: u64, digit: u8) -> u64 {
-    if 1000000 < n {
-        return n;
-    }
-    10 * n + (digit % 16) as u64
 }
 
 fn report(rows: u64, seed: u64) {

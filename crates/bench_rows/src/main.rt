@@ -1,5 +1,6 @@
 // Runs one method over a row of one kind a number of times, and prints a checksum: bench/run measures it beside the same loops in Rust.
 // Arguments: METHOD KIND TIMES. With fewer, every method over every kind, once.
+use digits::number_of;
 use libc::STDOUT_FILENO;
 use row::Answer;
 use sizes::HIGHEST;
@@ -102,24 +103,6 @@ fn print_kind(kind: usize) {
         return;
     }
     io::write_all(STDOUT_FILENO, b"figure ");
-}
-
-// The number that a word spells.
-fn number_of(word: &[u8]) -> u64 {
-    let mut n: u64 = 0;
-    let mut i: usize = 0;
-    while i < word.len() {
-        n = with_digit(n, word[i]);
-        i += 1;
-    }
-    n
-}
-
-fn with_digit(n: u64, digit: u8) -> u64 {
-    if 1000000 < n {
-        return n;
-    }
-    10 * n + (digit % 16) as u64
 }
 
 fn over_kind(method: usize, kind: usize, times: u64) -> u64 {

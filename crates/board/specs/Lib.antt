@@ -1,4 +1,5 @@
 pub mod Board
 pub mod BoardLaws
 pub mod Refusals
+pub mod Sound
 pub mod RefusalLaws

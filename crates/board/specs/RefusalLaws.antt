@@ -1,4 +1,4 @@
--- What a board that is not refused is known to be, and that the same rows and the same boards are refused the same. Assumes nothing.
+-- A board that is not refused is sound, and the same rows and the same boards are refused the same. Assumes nothing.
 use mathlib.Core.Path.{_≡_}
 use mathlib.Core.List.{List}
 use Prim.Native.Nat.{ℕ, _≤_, _<_}
@@ -13,14 +13,8 @@ use Rattle.sizes.specs.SizeLaws.{length-sound, limits-sound}
 use Rattle.board.specs.declared.Row.{Row}
 use Rattle.board.specs.declared.Board.{Board}
 use Rattle.board.specs.Board.{rowAt, SameRow, SameBoard}
-use Rattle.board.specs.Refusals.{sizesRefuse, headRefuses, unknownRefuses, sameName, repeatRefuses, pairRefuses, pairsRefuse, rowRefuses, lineRefuses, boardRefuses}
-
--- a board's sizes
-pub record SoundSizes (cells rows : ℕ) : Type 0 where
-  pub cells-some : 0 < cells
-  pub cells-most : cells ≤ boardCells
-  pub rows-some : 0 < rows
-  pub rows-most : rows ≤ boardRows
+use Rattle.board.specs.Sound.{SoundSizes, SoundHead, SoundLine, SoundBoard}
+use Rattle.board.specs.Refusals.{sizesRefuse, headRefuses, unknownRefuses, sameName, repeatRefuses, pairRefuses, pairsRefuse, boardRowRefuses, lineRefuses, boardRefuses}
 
 pub sizes-sound : (cells rows : ℕ) → sizesRefuse cells rows ≡ 0 → SoundSizes cells rows
 unfolding sizesRefuse
@@ -37,13 +31,6 @@ sizes-sound cells rows e =
       rows-most = ltb-false boardRows rows (not-held (ltb boardRows rows) 7 (c .1));
     }
 
--- a row's length and limits
-pub record SoundHead (len low high : ℕ) : Type 0 where
-  pub some : 0 < len
-  pub most : len ≤ rowCells
-  pub ordered : low ≤ high
-  pub limit : high ≤ highest
-
 pub head-sound : (len low high : ℕ) → headRefuses len low high ≡ 0 → SoundHead len low high
 unfolding headRefuses
 head-sound len low high e =
@@ -51,12 +38,6 @@ head-sound len low high e =
     let l = length-sound len (z .0) in
     let m = limits-sound low high (z .1) in
     record { some = l .0; most = l .1; ordered = m .0; limit = m .1 }
-
--- a row: its cells are on the board, and no two places hold the same
-pub record SoundLine (cells : ℕ) (row : Row) : Type 0 where
-  pub head : SoundHead (row .len) (row .low) (row .high)
-  pub known : (k : ℕ) → k < row .len → getD (row .names) k 0 < cells
-  pub once : (j k : ℕ) → j < k → k < row .len → getD (row .names) j 0 ≡ getD (row .names) k 0 → ⊥
 
 module _ (cells len : ℕ) (names : List ℕ) (e : pairsRefuse cells names len ≡ 0) where
   pair-none : (k : ℕ) → k < len → (unknownRefuses cells (getD names k 0) ≡ 0) × (repeatRefuses names k ≡ 0)
@@ -72,8 +53,8 @@ module _ (cells len : ℕ) (names : List ℕ) (e : pairsRefuse cells names len �
       eqb-false (getD names j 0) (getD names k 0)
       (not-held (eqb (getD names j 0) (getD names k 0)) 11 (firsts-each (sameName names k) k (pair-none k l .1) j h))
 
-pub row-sound : (cells : ℕ) (row : Row) → rowRefuses cells row ≡ 0 → SoundLine cells row
-unfolding rowRefuses
+pub row-sound : (cells : ℕ) (row : Row) → boardRowRefuses cells row ≡ 0 → SoundLine cells row
+unfolding boardRowRefuses
 row-sound cells row e =
     let z = neither (headRefuses (row .len) (row .low) (row .high)) (pairsRefuse cells (row .names) (row .len)) e in
     record {
@@ -81,11 +62,6 @@ row-sound cells row e =
       known = pairs-known cells (row .len) (row .names) (z .1);
       once = pairs-once cells (row .len) (row .names) (z .1);
     }
-
--- a board
-pub record SoundBoard (board : Board) : Type 0 where
-  pub sizes : SoundSizes (board .cells) (board .rows)
-  pub lines : (i : ℕ) → i < board .rows → SoundLine (board .cells) (rowAt (board .lines) i)
 
 pub board-sound : (board : Board) → boardRefuses board ≡ 0 → SoundBoard board
 unfolding boardRefuses
@@ -106,8 +82,8 @@ module _ (cells : ℕ) (a b : List ℕ) (len : ℕ) (same : (k : ℕ) → k < le
   unfolding pairRefuses
   pairs-same = firsts-same (pairRefuses cells a) (pairRefuses cells b) len (λ k l. rw (same k l, repeat-same k l))
 
-pub row-same : (cells : ℕ) (a b : Row) → SameRow a b → rowRefuses cells a ≡ rowRefuses cells b
-unfolding rowRefuses
+pub row-same : (cells : ℕ) (a b : Row) → SameRow a b → boardRowRefuses cells a ≡ boardRowRefuses cells b
+unfolding boardRowRefuses
 row-same cells a b s =
     rw (s .len, s .low, s .high, pairs-same cells (a .names) (b .names) (b .len) (s .names))
 

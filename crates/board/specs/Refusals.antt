@@ -41,11 +41,11 @@ abbrev pub pairsRefuse : ℕ → List ℕ → ℕ → ℕ
 pairsRefuse cells names len = firsts (pairRefuses cells names) len
 
 -- 1, 2 and for each pair 11, 12: a row, and row i
-unfoldable pub rowRefuses : ℕ → Row → ℕ
-rowRefuses cells row = first (headRefuses (row .len) (row .low) (row .high)) (pairsRefuse cells (row .names) (row .len))
+unfoldable pub boardRowRefuses : ℕ → Row → ℕ
+boardRowRefuses cells row = first (headRefuses (row .len) (row .low) (row .high)) (pairsRefuse cells (row .names) (row .len))
 
 abbrev pub lineRefuses : ℕ → List Row → ℕ → ℕ
-lineRefuses cells lines i = rowRefuses cells (rowAt lines i)
+lineRefuses cells lines i = boardRowRefuses cells (rowAt lines i)
 
 -- 8, then each row
 unfoldable pub boardRefuses : Board → ℕ

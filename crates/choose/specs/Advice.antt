@@ -20,5 +20,5 @@ unfoldable pub cleared : List ℕ → List ℕ
 cleared table = onto (replicate tableSize 0) table
 
 -- the rest of a table is unchanged
-abbrev pub Kept : List ℕ → List ℕ → Type 0
-Kept old new = drop tableSize new ≡ drop tableSize old
+abbrev pub SameRest : List ℕ → List ℕ → Type 0
+SameRest old new = drop tableSize new ≡ drop tableSize old

@@ -18,7 +18,7 @@ use Rattle.beat.specs.declared.Leader.the-variants.{Leads}
 use Rattle.beat.specs.Beat.{candidateOf, leaderOf}
 use Rattle.choose.specs.declared.Advice.{Advice}
 use Rattle.choose.specs.declared.Advice.the-variants.{Dead, Settled, Advise}
-use Rattle.choose.specs.Advice.{told, cleared, Kept}
+use Rattle.choose.specs.Advice.{told, cleared, SameRest}
 
 -- ---- tables
 
@@ -38,12 +38,12 @@ kept-onto : (zeros table used : List ℕ) (n : ℕ) → length zeros ≡ n → d
 unfolding onto
 kept-onto zeros table used n l h = ap (λ (l : List ℕ). zeros ++ l) (rw l h)
 
-pub cleared-kept : (table used new : List ℕ) → Kept table used → new ≡ cleared used → new ≡ cleared table
+pub cleared-kept : (table used new : List ℕ) → SameRest table used → new ≡ cleared used → new ≡ cleared table
 unfolding cleared
 cleared-kept table used new h e = e ∙ kept-onto (replicate tableSize 0) table used tableSize (length-replicate {A = ℕ} tableSize 0) h
 
 -- filling one keeps it
-pub filled-kept : (numbers table new : List ℕ) (n : ℕ) → length numbers ≡ sums * suc n → n ≤ rowCells → tableSize ≤ length table → new ≡ onto numbers table → Kept table new
+pub filled-kept : (numbers table new : List ℕ) (n : ℕ) → length numbers ≡ sums * suc n → n ≤ rowCells → tableSize ≤ length table → new ≡ onto numbers table → SameRest table new
 filled-kept numbers table new n l most room e = ap (drop tableSize) e ∙ onto-late numbers table 0 tableSize (omega arith) (omega arith)
 
 -- ---- answers

@@ -19,7 +19,7 @@ use Rattle.counting.specs.Domains.{listed-ones}
 use Rattle.board.specs.declared.Row.{Row as Line}
 use Rattle.board.specs.declared.Board.{Board}
 use Rattle.board.specs.Board.{rowAt}
-use Rattle.board.specs.RefusalLaws.{SoundBoard}
+use Rattle.board.specs.Sound.{SoundBoard}
 use Rattle.settling.specs.Settling.{Row, _∈_, Fits, Supported, gather}
 use Rattle.settling.specs.Cells.{gather-length}
 use Rattle.settling.specs.Boards.{rowOf, rowsTo, rowsOf}
@@ -30,7 +30,7 @@ use Rattle.choosing.specs.Choosing as choosing
 use Rattle.choosing.specs.Going.{Leader, through}
 use Rattle.choosing.specs.GoingLaws.{through-none, through-end}
 use Rattle.choosing.specs.CandidateLaws.{ofValue, place-several, place-few}
-use Rattle.choose.specs.Advice.{Kept}
+use Rattle.choose.specs.Advice.{SameRest}
 use Rattle.choose.specs.AdviceLaws.{filled-kept}
 use Rattle.choose.specs.Steps.{Ready}
 
@@ -109,7 +109,7 @@ module _ (r : Row) (d held part forward backward f g : List ℕ) (fits : Fits (l
   -- and the tables are kept
   pub fill-kept : tableSize ≤ length forward → tableSize ≤ length backward → part ≡ gather d (r .cells)
       → (f ≡ onto (forwardTable (r .weights) part) forward) × (g ≡ onto (backwardTable (r .weights) part (r .low) (r .high)) backward)
-      → Kept forward f × Kept backward g
+      → SameRest forward f × SameRest backward g
   fill-kept long wide e filled =
       let most = sound-part e .most in (
         filled-kept _ forward f (length part) (forward-length (r .weights) part) most long (filled .0),

@@ -5,7 +5,7 @@ use Prim.Native.Nat.{ℕ, _≤_}
 use lib.ListN.{length}
 use Rattle.sizes.specs.Sizes.{tableSize}
 use Rattle.board.specs.declared.Board.{Board}
-use Rattle.board.specs.RefusalLaws.{SoundBoard}
+use Rattle.board.specs.Sound.{SoundBoard}
 use Rattle.settling.specs.Settling.{Row, Fits, gather, rowTotal, Supported, Consistent}
 use Rattle.settling.specs.Boards.{rowsOf}
 use Rattle.row.specs.Cells.{Filled}

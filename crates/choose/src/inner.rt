@@ -18,7 +18,7 @@ ghost use Prim.Native.Nat.{_≤_, _<_, _^_};
 ghost use lib.ListN.{length};
 ghost use Rattle.sizes.specs.Sizes.{tableSize, SoundRow};
 ghost use Rattle.counting.specs.Counting.{listed};
-ghost use Rattle.board.specs.RefusalLaws.{SoundLine};
+ghost use Rattle.board.specs.Sound.{SoundLine};
 ghost use Rattle.settling.specs.Settling.{Fits, Supported};
 ghost use Rattle.settling.specs.Boards.{rowWith, rowOf, rowsOf};
 ghost use Rattle.choosing.specs.Choosing.{ofPlace, ofRow, candidates, someEmpty, choose as choice};
@@ -26,7 +26,7 @@ ghost use Rattle.choosing.specs.Going.{nobody, through, outcome};
 ghost use Rattle.beat.specs.Beat.{tiesOf, leaderOf, HasTotal};
 ghost use Rattle.beat.specs.declared.Candidate.{Candidate};
 ghost use Rattle.beat.specs.declared.Leader.the-variants.{Leads};
-ghost use Rattle.choose.specs.Advice.{told, cleared, Kept};
+ghost use Rattle.choose.specs.Advice.{told, cleared, SameRest};
 ghost use Rattle.choose.specs.Steps.{Choosable, Ready};
 
 // Chooses a move, and leaves zeros in the first 5,632 entries of the tables.
@@ -69,7 +69,7 @@ fn chosen(
 ) -> Advice
     requires { ⌜ Choosable board (now domains) (now forward) (now backward) ⌝ }
     ensures { λ r. ⌜ told r ≡ choice (tiesOf ties) (rowsOf board) (now (domains .entry)) ⌝ }
-    ensures { λ r. ⌜ Kept (now (forward .entry)) (now (forward .exit)) × Kept (now (backward .entry)) (now (backward .exit)) ⌝ }
+    ensures { λ r. ⌜ SameRest (now (forward .entry)) (now (forward .exit)) × SameRest (now (backward .entry)) (now (backward .exit)) ⌝ }
 {
     if some_empty(domains) {
         return Advice::Dead;
@@ -119,7 +119,7 @@ fn with_rows(
 ) -> Leader
     requires { ⌜ Choosable board (now domains) (now forward) (now backward) ⌝ }
     ensures { λ r. ⌜ leaderOf r ≡ through (tiesOf ties) nobody (candidates (rowsOf board) (now (domains .entry))) ⌝ }
-    ensures { λ r. ⌜ Kept (now (forward .entry)) (now (forward .exit)) × Kept (now (backward .entry)) (now (backward .exit)) ⌝ }
+    ensures { λ r. ⌜ SameRest (now (forward .entry)) (now (forward .exit)) × SameRest (now (backward .entry)) (now (backward .exit)) ⌝ }
 {
     let rows = board.rows;
     let mut best = Leader::Nobody;
@@ -144,7 +144,7 @@ fn with_row(
 ) -> Leader
     requires { ⌜ SoundLine (length (now domains)) line × Supported (now domains) (rowOf line) × HasTotal best × (tableSize ≤ length (now forward)) × (tableSize ≤ length (now backward)) ⌝ }
     ensures { λ r. ⌜ leaderOf r ≡ through (tiesOf ties) (leaderOf best) (ofRow i (rowOf line) (now (domains .entry))) ⌝ }
-    ensures { λ r. ⌜ HasTotal r × Kept (now (forward .entry)) (now (forward .exit)) × Kept (now (backward .entry)) (now (backward .exit)) ⌝ }
+    ensures { λ r. ⌜ HasTotal r × SameRest (now (forward .entry)) (now (forward .exit)) × SameRest (now (backward .entry)) (now (backward .exit)) ⌝ }
 {
     let len = line.len;
     let names = line.names;
@@ -181,7 +181,7 @@ fn with_parts(
 ) -> Leader
     requires { ⌜ Fits (length (now domains)) (rowWith (now names) (now weights) low high) × SoundRow (now weights) (now part) low high × Supported (now domains) (rowWith (now names) (now weights) low high) × HasTotal best × (tableSize ≤ length (now forward)) × (tableSize ≤ length (now backward)) ⌝ }
     ensures { λ r. ⌜ leaderOf r ≡ through (tiesOf ties) (leaderOf best) (ofRow i (rowWith (now (names .entry)) (now (weights .entry)) low high) (now (domains .entry))) ⌝ }
-    ensures { λ r. ⌜ HasTotal r × Kept (now (forward .entry)) (now (forward .exit)) × Kept (now (backward .entry)) (now (backward .exit)) ⌝ }
+    ensures { λ r. ⌜ HasTotal r × SameRest (now (forward .entry)) (now (forward .exit)) × SameRest (now (backward .entry)) (now (backward .exit)) ⌝ }
 {
     gather_row(domains, names, part);
     let total = fill(weights, part, low, high, forward, backward);

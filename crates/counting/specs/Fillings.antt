@@ -82,11 +82,18 @@ module _ (ws ds : List ℕ) (low high : ℕ) where
   pub sum-good : (f : List ℕ) → Filling ds f → low ≤ weigh ws f → weigh ws f ≤ high → GoodFilling ws ds low high f
   sum-good f t l h = record { filling = t; is-good = simp (le-leb low (weigh ws f) l, le-leb (weigh ws f) high h) }
 
-  -- an unlisted value counts 0
+  -- a value with a count above 0 is listed, so an unlisted value counts 0
   pub count-listed : (p v : ℕ) → p < length ds → 1 ≤ count ws ds low high p v → (v < values) × (lists (getD ds p 0) v ≡ true)
   count-listed p v l h =
       let r = count→good p v h in
       rw (r .2) at (filling-at ds (r .0) (r .1 .filling) p l)
+
+  pub count-unlisted : (p v : ℕ) → p < length ds → lists (getD ds p 0) v ≡ false → count ws ds low high p v ≡ 0
+  count-unlisted p v l e = go (count ws ds low high p v) refl
+    where
+      go : (n : ℕ) → count ws ds low high p v ≡ n → n ≡ 0
+      go zero q = refl
+      go (suc n) q = absurd (never (sym e ∙ count-listed p v l (rw q (omega arith)) .1))
 
 -- more values and wider limits make no count and no total smaller
 module _ (ws ds es : List ℕ) (low high low′ high′ : ℕ) (w : NoNewValue ds es) (lower : low′ ≤ low) (higher : high ≤ high′) where

@@ -6,3 +6,5 @@ pub mod Tables
 pub mod Counts
 pub mod Fillings
 pub mod Strikes
+pub mod Steps
+pub mod StepLaws

@@ -3,12 +3,12 @@ use mathlib.Core.Path.{_≡_, refl, sym, ap, ap₂, _∙_}
 use mathlib.Core.Bool.{Bool, true, false, _&&_, _||_}
 use mathlib.Core.List.{List}
 use Prim.Native.Nat.{ℕ, _+_, _*_, _/_, _%_, _^_, _≤_, _<_}
-use native.Mathlib.Nat.{one-mul, mul-le-mul, le-refl, div-eq-of-lt, lt-of-lt-of-le}
+use native.Mathlib.Nat.{mul-le-mul, le-refl, div-eq-of-lt, lt-of-lt-of-le}
 use native.Mathlib.Omega.{arith}
 use borrow.Author.Tests.{ltb-true, ltb-false}
-use lib.Dec.{ltb, eqb, lit<}
+use lib.Dec.{ltb, eqb}
 use lib.ListN.{length}
-use lib.Pow.{pow-mono, shr-shr, shl-exact}
+use lib.Pow.{pow-mono, shr-shr}
 use Rattle.told.specs.Told.{when}
 use Rattle.sizes.specs.Sizes.{values}
 use Rattle.listing.specs.Listing.{only, howMany, sumOver, below}
@@ -91,10 +91,6 @@ gone-end d p rest v x r h z e = sum-end d p (λ u. 1) rest v x r h z e ∙ ones 
 -- to the sum
 pub brings-fits : (w v : ℕ) → w < 256 → v < values → w * v < 2 ^ 13
 brings-fits w v h k = omega (arith, mul-le-mul {n₁ = w} {m₁ = v} {n₂ = 255} {m₂ = 31} (omega arith) (omega arith))
-
--- to the domain that is left
-pub power : (v : ℕ) → v < values → 1 * 2 ^ v % 2 ^ values ≡ 2 ^ v
-power v h = shl-exact 1 v values (lit< tt) (omega arith) ∙ one-mul (2 ^ v)
 
 -- under two tests: it is not listed, it fails the other, it passes both
 module _ (l u : Bool) (n : ℕ) where

@@ -8,8 +8,8 @@ use lib.Dec.{leb}
 use lib.ListN.{length}
 use Rattle.told.specs.Told.{when}
 use Rattle.sizes.specs.Sizes.{values, highest, sums, SoundRow}
-use Rattle.listing.specs.Listing.{sumOver, below, Written}
-use Rattle.counting.specs.Counting.{lists, domainOf, kept, gone, forward, backward}
+use Rattle.listing.specs.Listing.{sumOver, below}
+use Rattle.counting.specs.Counting.{lists, forward, backward}
 use Rattle.words.specs.Words.{wordBits, setWords, has, any, aboveZero, both}
 
 -- ---- tables
@@ -80,9 +80,3 @@ pub record Tables (ws ds : List ℕ) (low high : ℕ) (f g : List ℕ) : Type 0 
   pub long-g : length g ≡ tableWords
   pub forwards : Marked (forward ws ds) f 0 (length ds + 1)
   pub backwards : Marked (backward ws ds low high) g 0 (length ds + 1)
-
--- u is ds with the first i domains struck, which lose n values
-pub record StruckTo (ws ds : List ℕ) (low high : ℕ) (u : List ℕ) (n i : ℕ) : Type 0 where
-  pub size : length u ≡ length ds
-  pub number : n ≡ sumOver (λ p. length (gone ws ds low high p)) (below i)
-  pub cells : Written (λ p. domainOf (kept ws ds low high p)) ds u 0 i

@@ -3,23 +3,22 @@ use mathlib.Core.Path.{_≡_, refl, sym, ap, ap₂, _∙_}
 use mathlib.Core.Bool.{Bool, true, false, _&&_, not}
 use mathlib.Core.List.{List}
 use Prim.Native.Nat.{ℕ, suc, _+_, _*_, _^_, _≤_, _<_}
-use native.Mathlib.Nat.{le-refl}
 use native.Mathlib.Omega.{arith}
 use borrow.Author.Tests.{le-leb, lt-leb}
 use lib.Dec.{leb, eqb}
-use lib.ListN.{length, getD, set, length-set}
+use lib.ListN.{length, getD, set}
 use Rattle.told.specs.Told.{when}
 use Rattle.sizes.specs.Sizes.{values, highest, sums}
 use Rattle.listing.specs.Listing.{only, sumOver, below}
-use Rattle.listing.specs.Sums.{when-both, when-cong, sum-turn, sum-nil, sum-le, sum-cong-below, length-only, length-below}
-use Rattle.listing.specs.Writing.{written-none, written-more}
-use Rattle.counting.specs.Counting.{lists, listed, domainOf, count, forward, backward, kept, gone, strike, struck}
-use Rattle.counting.specs.Domains.{sum-listed-only, listed-le}
+use Rattle.listing.specs.Sums.{when-both, when-cong, sum-cong-below}
+use Rattle.counting.specs.Counting.{lists, listed, domainOf, count, forward, backward, kept, gone}
+use Rattle.counting.specs.Domains.{sum-listed-only}
 use Rattle.counting.specs.Counts.{count-law}
-use Rattle.counting.specs.Strikes.{strike-only}
+use Rattle.counting.specs.Steps.{StruckTo}
+use Rattle.counting.specs.StepLaws.{struck-here, struck-more}
 use Rattle.words.specs.Words.{wordBits, has, any, aboveZero, both}
 use Rattle.words.specs.Bits.{any-cong, any-none, above-sum, above-times}
-use Rattle.reach.specs.Reach.{layerWord, layerAt, Marked, reached, leads, uses, Tables, StruckTo}
+use Rattle.reach.specs.Reach.{layerWord, layerAt, Marked, reached, leads, uses, Tables}
 use Rattle.reach.specs.Layers.{reached-down}
 use Rattle.reach.specs.Halving.{ones}
 
@@ -103,48 +102,14 @@ module _ (ws ds : List ℕ) (low high : ℕ) (f g : List ℕ) (t : Tables ws ds 
       ∙ only-cong (getD ds p 0) (λ v. not (uses f g p (getD ws p 0) v)) (λ v. eqb (count ws ds low high p v) 0) (λ v. 1) (λ v l i. ap not (uses-counted v l i) ∙ twice _)
       ∙ ones _ (listed (getD ds p 0))
 
--- ---- cell by cell
-
-module _ (ws ds : List ℕ) (low high : ℕ) where
-  pub struck-none : StruckTo ws ds low high ds 0 0
-  struck-none = record { size = refl; number = sym (sum-nil _); cells = written-none _ ds 0 }
-
-  -- one cell more, struck by the tables
-  pub struck-more : (f g u : List ℕ) (n i domain lost : ℕ) → Tables ws ds low high f g → StruckTo ws ds low high u n i → i < length u
-      → domain ≡ domainOf (only (uses f g i (getD ws i 0)) (listed (getD u i 0)))
-      → lost ≡ length (only (λ v. not (uses f g i (getD ws i 0) v)) (listed (getD u i 0)))
-      → StruckTo ws ds low high (set u i domain) (n + lost) (i + 1)
-  struck-more f g u n i domain lost t s h ed el =
-      record {
-        size = length-set u i domain ∙ s .size;
-        number = ap₂ _+_ (s .number) (el ∙ ap (λ (d : ℕ). length (only (λ v. not (uses f g i (getD ws i 0) v)) (listed d))) old ∙ gone-same ws ds low high f g t i in-row) ∙ sum-turn _ i;
-        cells = written-more _ ds u 0 i domain (omega arith) h
-            (ed ∙ ap (λ (d : ℕ). domainOf (only (uses f g i (getD ws i 0)) (listed d))) old ∙ kept-same ws ds low high f g t i in-row)
-            (s .cells);
-      }
-    where
-      old : getD u i 0 ≡ getD ds i 0
-      old = s .cells .late i (le-refl i)
-
-      in-row : i < length ds
-      in-row = omega (arith, s .size)
-
-  -- no more values are gone than the cells have
-  pub struck-fits : (u : List ℕ) (n i : ℕ) → StruckTo ws ds low high u n i → n ≤ values * i
-  unfolding gone
-  struck-fits u n i s = omega (
-    arith,
-    s .number,
-    length-below i,
-    sum-le (λ p. length (gone ws ds low high p)) values (below i) (λ p.
-        omega (arith, length-only (λ v. eqb (count ws ds low high p v) 0) (listed (getD ds p 0)), listed-le (getD ds p 0))),
-  )
-
-  -- the row
-  module _ (u : List ℕ) (n : ℕ) (s : StruckTo ws ds low high u n (length ds)) where
-    pub struck-number : n ≡ struck ws ds low high
-    unfolding struck
-    struck-number = s .number
-
-    pub struck-domains : u ≡ strike ws ds low high
-    struck-domains = strike-only ws ds low high u (s .size) (λ p h. s .cells .inside p (omega arith) h)
+-- one cell more, struck by the tables
+pub used-more : (ws ds : List ℕ) (low high : ℕ) (f g es : List ℕ) (n i domain lost : ℕ) → Tables ws ds low high f g → StruckTo ws ds low high es n i → i < length es
+    → domain ≡ domainOf (only (uses f g i (getD ws i 0)) (listed (getD es i 0)))
+    → lost ≡ length (only (λ v. not (uses f g i (getD ws i 0) v)) (listed (getD es i 0)))
+    → StruckTo ws ds low high (set es i domain) (n + lost) (i + 1)
+used-more ws ds low high f g es n i domain lost t s h ed el =
+    let in-row : i < length ds = omega (arith, s .size) in
+    let here = struck-here ws ds low high es n i s in
+    struck-more ws ds low high es n i s domain lost h
+    (ed ∙ ap (λ (d : ℕ). domainOf (only (uses f g i (getD ws i 0)) (listed d))) here ∙ kept-same ws ds low high f g t i in-row)
+    (el ∙ ap (λ (d : ℕ). length (only (λ v. not (uses f g i (getD ws i 0) v)) (listed d))) here ∙ gone-same ws ds low high f g t i in-row)

@@ -11,20 +11,20 @@ use Rattle.board.specs.Refusals.{pairsRefuse}
 use Rattle.board.specs.declared.Row.{Row}
 use Rattle.board.specs.declared.Board.{Board}
 use Rattle.board.specs.Board.{filled}
-use Rattle.reader.specs.File.{byte, two, trailer, cellsIn, rowsIn, nameIn, weightIn, namesIn, rowIn, rowEnd, place, domainIn, linesIn, boardIn}
+use Rattle.reader.specs.File.{byte, two, trailer, cellsIn, rowsIn, nameIn, weightIn, namesIn, rowIn, rowEnd, rowPlace, domainIn, linesIn, boardIn}
 use Rattle.reader.specs.Reading.{rowInRefuses, lineInRefuses, restRefuses, rowsRefuse}
 
 -- where the next row starts
-pub place-next : (file : List ℕ) (i at end : ℕ) → at ≡ place file i → end ≡ rowEnd file at → end ≡ place file (i + 1)
-unfolding place
+pub place-next : (file : List ℕ) (i at end : ℕ) → at ≡ rowPlace file i → end ≡ rowEnd file at → end ≡ rowPlace file (i + 1)
+unfolding rowPlace
 place-next file i at end e h = rw add-one (h ∙ ap (rowEnd file) e)
 
-pub place-start : (file : List ℕ) (cells : ℕ) → cells ≡ cellsIn file → 4 * cells ≡ place file 0
-unfolding place
+pub place-start : (file : List ℕ) (cells : ℕ) → cells ≡ cellsIn file → 4 * cells ≡ rowPlace file 0
+unfolding rowPlace
 place-start file cells e = rw e
 
 -- a loop through the rows: at one that is refused, and past the last
-module _ (file : List ℕ) (i n at : ℕ) (p : at ≡ place file i) (rows : n ≡ rowsIn file) (e : firsts (lineInRefuses file) i ≡ 0) where
+module _ (file : List ℕ) (i n at : ℕ) (p : at ≡ rowPlace file i) (rows : n ≡ rowsIn file) (e : firsts (lineInRefuses file) i ≡ 0) where
   pub rows-stop : (x : ℕ) → i < n → x ≡ rowInRefuses file at → (x ≡ 0 → ⊥) → x ≡ rowsRefuse file
   unfolding rowsRefuse
   rows-stop x l h some =
@@ -36,7 +36,7 @@ module _ (file : List ℕ) (i n at : ℕ) (p : at ≡ place file i) (rows : n �
   rows-end x l g h =
       let m : i ≡ rowsIn file = omega arith in
       past-call 0 (firsts (lineInRefuses file) (rowsIn file)) x _ (firsts-end (lineInRefuses file) i (rowsIn file) (omega arith) (omega arith) e) refl
-      (h ∙ ap (λ (k : ℕ). restRefuses k (trailer file)) (p ∙ ap (place file) m))
+      (h ∙ ap (λ (k : ℕ). restRefuses k (trailer file)) (p ∙ ap (rowPlace file) m))
 
 -- a loop through a row's pairs: past the last
 pub row-is : (file : List ℕ) (at len low high k : ℕ) (names weights : List ℕ)

@@ -68,12 +68,12 @@ abbrev pub rowEnd : List ℕ → ℕ → ℕ
 rowEnd file at = at + 5 + 2 * byte file at
 
 -- where row i starts: the first after the domains, each other where the one before it ends
-unfoldable pub place : List ℕ → ℕ → ℕ
-place file zero = 4 * cellsIn file
-place file (suc i) = rowEnd file (place file i)
+unfoldable pub rowPlace : List ℕ → ℕ → ℕ
+rowPlace file zero = 4 * cellsIn file
+rowPlace file (suc i) = rowEnd file (rowPlace file i)
 
 abbrev pub lineIn : List ℕ → ℕ → Row
-lineIn file i = rowIn file (place file i)
+lineIn file i = rowIn file (rowPlace file i)
 
 abbrev pub linesIn : List ℕ → List Row
 linesIn file = filled (lineIn file) zeroRow (rowsIn file) boardRows

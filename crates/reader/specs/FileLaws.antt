@@ -1,4 +1,4 @@
--- What a file that is not refused is known to be. Assumes nothing.
+-- A file that is not refused is sound, and from its trailer the whole of it is read. Assumes nothing.
 use mathlib.Core.Path.{_≡_}
 use mathlib.Core.List.{List}
 use mathlib.Core.Bool.{not}
@@ -11,19 +11,12 @@ use borrow.Author.Tests.{ltb-false, le-ltb}
 use Rattle.told.specs.Told.{when, first, firsts}
 use Rattle.told.specs.ToldLaws.{neither, not-held, not-differ, firsts-each}
 use Rattle.sizes.specs.Sizes.{fileSize}
-use Rattle.board.specs.Refusals.{sizesRefuse, headRefuses, pairsRefuse, rowRefuses}
-use Rattle.board.specs.RefusalLaws.{SoundSizes, sizes-sound, SoundHead, head-sound}
+use Rattle.board.specs.Refusals.{sizesRefuse, headRefuses, pairsRefuse, boardRowRefuses}
+use Rattle.board.specs.RefusalLaws.{sizes-sound, head-sound}
 use Rattle.board.specs.Board.{mark}
-use Rattle.reader.specs.File.{byte, two, trailerSize, trailer, fileAt, startIn, cellsIn, rowsIn, markIn, namesIn, rowIn, rowEnd, place}
+use Rattle.reader.specs.File.{byte, two, trailerSize, trailer, fileAt, startIn, cellsIn, rowsIn, markIn, namesIn, rowIn, rowEnd, rowPlace}
+use Rattle.reader.specs.Sound.{SoundTrailer, SoundRowIn, SoundFile}
 use Rattle.reader.specs.Reading.{sizeRefuses, markRefuses, startRefuses, trailerRefuses, rowInRefuses, lineInRefuses, restRefuses, rowsRefuse, fileRefuses}
-
--- its trailer
-pub record SoundTrailer (file : List ℕ) : Type 0 where
-  pub marked : markIn file ≡ mark
-  pub sizes-none : sizesRefuse (cellsIn file) (rowsIn file) ≡ 0
-  pub sizes : SoundSizes (cellsIn file) (rowsIn file)
-  pub start : startIn file ≡ 4 * cellsIn file
-  pub inside : 4 * cellsIn file ≤ trailer file
 
 pub trailer-sound : (file : List ℕ) → trailerRefuses file ≡ 0 → SoundTrailer file
 unfolding trailerRefuses
@@ -40,12 +33,6 @@ trailer-sound file e =
       inside = rw start at (ltb-false (trailer file) (startIn file) (not-held (ltb (trailer file) (startIn file)) 8 (c .1)));
     }
 
--- a row of it
-pub record SoundRowIn (file : List ℕ) (at : ℕ) : Type 0 where
-  pub head : SoundHead (byte file at) (two file (at + 1)) (two file (at + 3))
-  pub fits : rowEnd file at ≤ trailer file
-  pub none : rowInRefuses file at ≡ 0
-
 pub row-in-sound : (file : List ℕ) (at : ℕ) → rowInRefuses file at ≡ 0 → SoundRowIn file at
 unfolding rowInRefuses
 row-in-sound file at e =
@@ -57,14 +44,6 @@ row-in-sound file at e =
       fits = ltb-false (trailer file) (rowEnd file at) (not-held (ltb (trailer file) (rowEnd file at)) 9 (c .0));
       none = e;
     }
-
--- the whole of it
-pub record SoundFile (file : List ℕ) : Type 0 where
-  pub long : 6 ≤ length file
-  pub short : length file ≤ fileSize
-  pub tail : SoundTrailer file
-  pub line : (i : ℕ) → i < rowsIn file → SoundRowIn file (place file i)
-  pub whole : place file (rowsIn file) ≡ trailer file
 
 size-sound : (size : ℕ) → sizeRefuses size ≡ 0 → (6 ≤ size) × (size ≤ fileSize)
 size-sound size e =
@@ -79,14 +58,14 @@ unfolding fileRefuses rowsRefuse
 file-sound file e =
     let a = neither (sizeRefuses (length file)) (first (trailerRefuses file) (rowsRefuse file)) e in
     let b = neither (trailerRefuses file) (rowsRefuse file) (a .1) in
-    let c = neither (firsts (lineInRefuses file) (rowsIn file)) (restRefuses (place file (rowsIn file)) (trailer file)) (b .1) in
+    let c = neither (firsts (lineInRefuses file) (rowsIn file)) (restRefuses (rowPlace file (rowsIn file)) (trailer file)) (b .1) in
     let size = size-sound (length file) (a .0) in
     record {
       long = size .0;
       short = size .1;
       tail = trailer-sound file (b .0);
-      line = λ i l. row-in-sound file (place file i) (firsts-each (lineInRefuses file) (rowsIn file) (c .0) i l);
-      whole = not-differ (place file (rowsIn file)) (trailer file) 9 (c .1);
+      line = λ i l. row-in-sound file (rowPlace file i) (firsts-each (lineInRefuses file) (rowsIn file) (c .0) i l);
+      whole = not-differ (rowPlace file (rowsIn file)) (trailer file) 9 (c .1);
     }
 
 -- from its trailer, or from past it, the whole of it is read
@@ -94,8 +73,8 @@ pub file-at-whole : (file : List ℕ) (place : ℕ) → trailer file ≤ place �
 file-at-whole file place l = take-all (place + trailerSize) file (omega arith)
 
 -- a row that fits is refused as its record is
-pub row-in-fits : (file : List ℕ) (at : ℕ) → rowEnd file at ≤ trailer file → rowInRefuses file at ≡ rowRefuses (cellsIn file) (rowIn file at)
-unfolding rowInRefuses rowRefuses rowIn
+pub row-in-fits : (file : List ℕ) (at : ℕ) → rowEnd file at ≤ trailer file → rowInRefuses file at ≡ boardRowRefuses (cellsIn file) (rowIn file at)
+unfolding rowInRefuses boardRowRefuses rowIn
 row-in-fits file at l =
     let h : at + 5 ≤ trailer file = omega arith in
     rw (le-ltb (trailer file) (at + 5) h, le-ltb (trailer file) (rowEnd file at) l)

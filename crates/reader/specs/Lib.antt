@@ -2,3 +2,4 @@ pub mod File
 pub mod FileLaws
 pub mod Reading
 pub mod ReadingLaws
+pub mod Sound

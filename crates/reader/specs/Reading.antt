@@ -13,7 +13,7 @@ use Rattle.reader.specs.declared.Outcome.{Outcome}
 use Rattle.reader.specs.declared.Outcome.the-variants.{Read, Refused}
 use Rattle.reader.specs.declared.Counts.{Counts}
 use Rattle.reader.specs.declared.Counts.the-variants.{Counted, Refused as Uncounted}
-use Rattle.reader.specs.File.{byte, two, trailer, startIn, cellsIn, rowsIn, markIn, namesIn, rowEnd, place, boardIn}
+use Rattle.reader.specs.File.{byte, two, trailer, startIn, cellsIn, rowsIn, markIn, namesIn, rowEnd, rowPlace, boardIn}
 
 -- 6: file below 6 or above 1,062 bytes
 abbrev pub sizeRefuses : ℕ → ℕ
@@ -43,7 +43,7 @@ rowInRefuses file at =
     (pairsRefuse (cellsIn file) (namesIn file at) (byte file at))))
 
 abbrev pub lineInRefuses : List ℕ → ℕ → ℕ
-lineInRefuses file i = rowInRefuses file (place file i)
+lineInRefuses file i = rowInRefuses file (rowPlace file i)
 
 -- 10: bytes are left over between the last row and the trailer
 abbrev pub restRefuses : ℕ → ℕ → ℕ
@@ -51,7 +51,7 @@ restRefuses at end = when (not (eqb at end)) 10
 
 -- each row, then left-over bytes
 unfoldable pub rowsRefuse : List ℕ → ℕ
-rowsRefuse file = first (firsts (lineInRefuses file) (rowsIn file)) (restRefuses (place file (rowsIn file)) (trailer file))
+rowsRefuse file = first (firsts (lineInRefuses file) (rowsIn file)) (restRefuses (rowPlace file (rowsIn file)) (trailer file))
 
 -- 6, 7, 8, 9, then the rows
 unfoldable pub fileRefuses : List ℕ → ℕ

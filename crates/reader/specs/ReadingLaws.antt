@@ -11,7 +11,7 @@ use Rattle.reader.specs.declared.Outcome.{Outcome}
 use Rattle.reader.specs.declared.Outcome.the-variants.{Read, Refused}
 use Rattle.board.specs.Board.{zeroRow, blankRow}
 use Rattle.board.specs.BoardLaws.{filled-at}
-use Rattle.reader.specs.File.{cellsIn, rowsIn, place, lineIn, linesIn, boardIn}
+use Rattle.reader.specs.File.{cellsIn, rowsIn, rowPlace, lineIn, linesIn, boardIn}
 use Rattle.reader.specs.Reading.{fileRefuses, told, readSays, refusalOf}
 use Rattle.reader.specs.FileLaws.{file-sound, row-in-fits}
 
@@ -25,7 +25,7 @@ unfolding boardRefuses boardIn
 read-sound file e =
     let f = file-sound file e in
     let line : (i : ℕ) → i < rowsIn file → lineRefuses (cellsIn file) (linesIn file) i ≡ 0 =
-    λ i l. rw (filled-at (lineIn file) zeroRow (rowsIn file) boardRows i blankRow l) (sym (row-in-fits file (place file i) (f .line i l .fits)) ∙ f .line i l .none) in
+    λ i l. rw (filled-at (lineIn file) zeroRow (rowsIn file) boardRows i blankRow l) (sym (row-in-fits file (rowPlace file i) (f .line i l .fits)) ∙ f .line i l .none) in
     rw (f .tail .sizes-none) (firsts-zero (lineRefuses (cellsIn file) (linesIn file)) (rowsIn file) line)
 
 -- what a caller of `read` knows that has taken its answer apart

@@ -149,7 +149,7 @@ fn wide(x: u8) -> usize
     x as usize
 }
 
-// The byte at a place, and the numbers of two and four bytes that start there.
+// The byte at a rowPlace, and the numbers of two and four bytes that start there.
 fn byte_at(file: &[u8], at: usize) -> usize
     requires { ⌜ at < length (now file) ⌝ }
     ensures { λ r. ⌜ (r ≡ byte (now (file .entry)) at) × (r < 256) ⌝ }
@@ -255,7 +255,7 @@ fn row_end(file: &[u8], at: usize) -> usize
     at + 5 + 2 * byte_at(file, at)
 }
 
-// The first refusal of the row at a place, or 0.
+// The first refusal of the row at a rowPlace, or 0.
 fn row_refuses(file: &[u8], at: usize) -> u8
     requires { ⌜ at + 6 ≤ length (now file) ⌝ }
     ensures { λ r. ⌜ r ≡ rowInRefuses (now (file .entry)) at ⌝ }

@@ -14,8 +14,9 @@ use Rattle.board.specs.declared.Board.{Board}
 use Rattle.board.specs.Board.{mark, zeroRow, blankRow, rowAt, SameRow, SameBoard}
 use Rattle.board.specs.BoardLaws.{filled-at}
 use Rattle.board.specs.Refusals.{sizesRefuse, lineRefuses, boardRefuses}
-use Rattle.board.specs.RefusalLaws.{SoundLine, SoundBoard, board-sound, row-same}
-use Rattle.reader.specs.File.{byte, two, four, trailer, startIn, cellsIn, rowsIn, markIn, domainIn, nameIn, weightIn, rowIn, rowEnd, place, lineIn, boardIn}
+use Rattle.board.specs.Sound.{SoundLine, SoundBoard}
+use Rattle.board.specs.RefusalLaws.{board-sound, row-same}
+use Rattle.reader.specs.File.{byte, two, four, trailer, startIn, cellsIn, rowsIn, markIn, domainIn, nameIn, weightIn, rowIn, rowEnd, rowPlace, lineIn, boardIn}
 use Rattle.reader.specs.Reading.{sizeRefuses, markRefuses, trailerRefuses, lineInRefuses, rowsRefuse, fileRefuses}
 use Rattle.reader.specs.FileLaws.{row-in-fits}
 use Rattle.writer.specs.Bytes.{joined, twoBytes, fourBytes, domainBytes, headBytes, pairBytes, rowBytes, lineBytes, trailerBytes, fileOf}
@@ -153,20 +154,20 @@ module _ (board : Board) (ok : boardRefuses board ≡ 0) (domains32 : (i : ℕ) 
   unfolding rowIn
   line-len i at l e = line-same i at l e .len
 
-  place-is : (i : ℕ) → i ≤ board .rows → place file i ≡ 4 * board .cells + length (joined (lineBytes (board .lines)) i)
-  unfolding place
+  place-is : (i : ℕ) → i ≤ board .rows → rowPlace file i ≡ 4 * board .cells + length (joined (lineBytes (board .lines)) i)
+  unfolding rowPlace
   place-is zero l =
       let c = trailer-is .cells-are in
       let z = size-start (lineBytes (board .lines)) in
       omega arith
   place-is (suc i) l =
       let p = place-is i (omega arith) in
-      let b = line-len i (place file i) (omega arith) p in
+      let b = line-len i (rowPlace file i) (omega arith) p in
       let n = rw add-one at (lines-next (board .lines) i) in
       omega arith
 
-  line-fits : (i : ℕ) → i < board .rows → rowEnd file (place file i) ≤ trailer file
-  unfolding place lines
+  line-fits : (i : ℕ) → i < board .rows → rowEnd file (rowPlace file i) ≤ trailer file
+  unfolding rowPlace lines
   line-fits i l =
       let p = place-is (suc i) (omega arith) in
       let u = size-rises (lineBytes (board .lines)) (suc i) (board .rows) (omega arith) in
@@ -179,8 +180,8 @@ module _ (board : Board) (ok : boardRefuses board ≡ 0) (domains32 : (i : ℕ) 
 
   line-none : (i : ℕ) → i < board .rows → lineInRefuses file i ≡ 0
   line-none i l =
-      row-in-fits file (place file i) (line-fits i l)
-      ∙ rw (trailer-is .cells-are) (row-same (board .cells) (rowIn file (place file i)) (rowAt (board .lines) i) (line-same i (place file i) l (place-is i (omega arith))))
+      row-in-fits file (rowPlace file i) (line-fits i l)
+      ∙ rw (trailer-is .cells-are) (row-same (board .cells) (rowIn file (rowPlace file i)) (rowAt (board .lines) i) (line-same i (rowPlace file i) l (place-is i (omega arith))))
       ∙ firsts-each (lineRefuses (board .cells) (board .lines)) (board .rows) (refusals .1) i l
 
   size-none : sizeRefuses (length file) ≡ 0
@@ -203,10 +204,10 @@ module _ (board : Board) (ok : boardRefuses board ≡ 0) (domains32 : (i : ℕ) 
   rows-none : rowsRefuse file ≡ 0
   unfolding rowsRefuse lines
   rows-none =
-      let e : place file (board .rows) ≡ trailer file = let p = place-is (board .rows) (omega arith) in let t = trailer-at in omega arith in
+      let e : rowPlace file (board .rows) ≡ trailer file = let p = place-is (board .rows) (omega arith) in let t = trailer-at in omega arith in
       rw (trailer-is .rows-are)
       (both-none (firsts (lineInRefuses file) (board .rows)) _ (firsts-zero (lineInRefuses file) (board .rows) line-none)
-      (rw (agree (place file (board .rows)) (trailer file) e)))
+      (rw (agree (rowPlace file (board .rows)) (trailer file) e)))
 
   pub reread : fileRefuses (fileOf board) ≡ 0
   unfolding fileRefuses file
@@ -223,5 +224,5 @@ module _ (board : Board) (ok : boardRefuses board ≡ 0) (domains32 : (i : ℕ) 
             ∙ four-back (getD (board .domains) i 0) (domains32 i) (domain-stands i l);
         rows = t .rows-are;
         lines = λ i l.
-            rw (filled-at (lineIn file) zeroRow (rowsIn file) boardRows i blankRow (rw (t .rows-are) l)) (line-same i (place file i) l (place-is i (omega arith)));
+            rw (filled-at (lineIn file) zeroRow (rowsIn file) boardRows i blankRow (rw (t .rows-are) l)) (line-same i (rowPlace file i) l (place-is i (omega arith)));
       }

@@ -7,8 +7,8 @@ use lib.ListN.{length, length-append}
 use Rattle.sizes.specs.Sizes.{rowCells, boardCells, boardRows}
 use Rattle.board.specs.Board.{zeroRow, blankRow, filled}
 use Rattle.board.specs.BoardLaws.{filled-at}
-use Rattle.reader.specs.File.{byte, two, four, trailer, cellsIn, rowsIn, domainIn, nameIn, weightIn, rowIn, rowEnd, place, lineIn, boardIn}
-use Rattle.reader.specs.FileLaws.{SoundFile}
+use Rattle.reader.specs.File.{byte, two, four, trailer, cellsIn, rowsIn, domainIn, nameIn, weightIn, rowIn, rowEnd, rowPlace, lineIn, boardIn}
+use Rattle.reader.specs.Sound.{SoundFile}
 use Rattle.writer.specs.Bytes.{joined, twoBytes, fourBytes, domainBytes, pairBytes, rowBytes, lineBytes, trailerBytes, fileOf}
 use Rattle.writer.specs.BytesLaws.{row-size, domains-size, file-size}
 use Rattle.round.specs.Stands.{Stands, none, byte-more, both, places, each, whole}
@@ -59,14 +59,14 @@ module _ (file : List ℕ) (bytes : (k : ℕ) → byte file k < 256) where
     unfolding boardIn
     line-is i l = rw (filled-at (lineIn file) zeroRow (rowsIn file) boardRows i blankRow l)
 
-    line-next : (i : ℕ) → i < rowsIn file → place file (suc i) ≡ place file i + length (lineBytes (boardIn file .lines) i)
-    unfolding place rowIn
+    line-next : (i : ℕ) → i < rowsIn file → rowPlace file (suc i) ≡ rowPlace file i + length (lineBytes (boardIn file .lines) i)
+    unfolding rowPlace rowIn
     line-next i l = rw (line-is i l, row-size) (omega arith)
 
-    lines-stand : Stands file (place file 0) (joined (lineBytes (boardIn file .lines)) (rowsIn file))
+    lines-stand : Stands file (rowPlace file 0) (joined (lineBytes (boardIn file .lines)) (rowsIn file))
     lines-stand =
-        each (lineBytes (boardIn file .lines)) (place file) (rowsIn file) line-next
-        (λ i l. rw (line-is i l) (row-stands (place file i) (omega (arith, f .line i l .fits))))
+        each (lineBytes (boardIn file .lines)) (rowPlace file) (rowsIn file) line-next
+        (λ i l. rw (line-is i l) (row-stands (rowPlace file i) (omega (arith, f .line i l .fits))))
 
     trailer-stands : Stands file (trailer file) (trailerBytes (cellsIn file) (rowsIn file))
     trailer-stands =
@@ -83,15 +83,15 @@ module _ (file : List ℕ) (bytes : (k : ℕ) → byte file k < 256) where
 
     -- the law
     pub rewritten : fileOf (boardIn file) ≡ file
-    unfolding fileOf boardIn place
+    unfolding fileOf boardIn rowPlace
     rewritten =
         let domains = joined (domainBytes (boardIn file .domains)) (cellsIn file) in
         let lines = joined (lineBytes (boardIn file .lines)) (rowsIn file) in
-        let n = places (lineBytes (boardIn file .lines)) (place file) (rowsIn file) line-next in
+        let n = places (lineBytes (boardIn file .lines)) (rowPlace file) (rowsIn file) line-next in
         let d = domains-size (boardIn file .domains) (cellsIn file) in
         let a = length-append domains lines in
         let e = file-size (boardIn file) in
-        let first : 0 + length domains ≡ place file 0 = omega arith in
+        let first : 0 + length domains ≡ rowPlace file 0 = omega arith in
         let last : 0 + length (domains ++ lines) ≡ trailer file = omega (arith, f .whole) in
         let l : Stands file (0 + length domains) lines = rw first lines-stand in
         let t : Stands file (0 + length (domains ++ lines)) (trailerBytes (cellsIn file) (rowsIn file)) = rw last trailer-stands in

@@ -47,7 +47,7 @@ module _ {file : List ℕ} where
       let q : at + suc (length xs) ≡ at + 1 + length xs = omega arith in
       rw q (back xs ys s)
 
-  -- f 0, f 1, .. one after the other, each at its place, and taken apart again
+  -- f 0, f 1, .. one after the other, each at its rowPlace, and taken apart again
   module _ (f : ℕ → List ℕ) where
     pub each : (p : ℕ → ℕ) (n : ℕ) → ((i : ℕ) → i < n → p (suc i) ≡ p i + length (f i)) → ((i : ℕ) → i < n → Stands file (p i) (f i)) → Stands file (p 0) (joined f n)
     unfolding joined

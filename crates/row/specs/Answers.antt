@@ -33,12 +33,12 @@ abbrev pub placeRefuses : ℕ → ℕ → ℕ → ℕ
 placeRefuses cells place value = first (when (leb cells place) 4) (when (leb values value) 4)
 
 -- every row call: 1, 2, 3
-abbrev pub sizesRefuse : ℕ → ℕ → ℕ → ℕ → ℕ → ℕ → ℕ
-sizesRefuse weights cells low high forward backward =
+abbrev pub rowSizesRefuse : ℕ → ℕ → ℕ → ℕ → ℕ → ℕ → ℕ
+rowSizesRefuse weights cells low high forward backward =
     first (listsRefuse weights cells) (first (limitsRefuse low high) (tablesRefuse forward backward))
 
 abbrev pub rowRefuses : List ℕ → List ℕ → ℕ → ℕ → List ℕ → List ℕ → ℕ
-rowRefuses ws ds low high forward backward = sizesRefuse (length ws) (length ds) low high (length forward) (length backward)
+rowRefuses ws ds low high forward backward = rowSizesRefuse (length ws) (length ds) low high (length forward) (length backward)
 
 -- the count call: 1, 2, 3, 4
 abbrev pub countRefuses : List ℕ → List ℕ → ℕ → ℕ → ℕ → ℕ → List ℕ → List ℕ → ℕ
@@ -67,16 +67,16 @@ abbrev pub tables : List ℕ → List ℕ → Tables
 tables forward backward = (forward, backward)
 
 -- both tables with a row's numbers at the front
-abbrev pub filled : List ℕ → List ℕ → ℕ → ℕ → List ℕ → List ℕ → Tables
-filled ws ds low high forward backward = tables (onto (forwardTable ws ds) forward) (onto (backwardTable ws ds low high) backward)
+abbrev pub filledTables : List ℕ → List ℕ → ℕ → ℕ → List ℕ → List ℕ → Tables
+filledTables ws ds low high forward backward = tables (onto (forwardTable ws ds) forward) (onto (backwardTable ws ds low high) backward)
 
 abbrev pub rowLeaves : List ℕ → List ℕ → ℕ → ℕ → List ℕ → List ℕ → Tables
 rowLeaves ws ds low high forward backward =
-    leave (rowRefuses ws ds low high forward backward) (tables forward backward) (filled ws ds low high forward backward)
+    leave (rowRefuses ws ds low high forward backward) (tables forward backward) (filledTables ws ds low high forward backward)
 
 abbrev pub countLeaves : List ℕ → List ℕ → ℕ → ℕ → ℕ → ℕ → List ℕ → List ℕ → Tables
 countLeaves ws ds low high place value forward backward =
-    leave (countRefuses ws ds low high place value forward backward) (tables forward backward) (filled ws ds low high forward backward)
+    leave (countRefuses ws ds low high place value forward backward) (tables forward backward) (filledTables ws ds low high forward backward)
 
 -- the domains, after the striking call
 abbrev pub strikeLeaves : List ℕ → List ℕ → ℕ → ℕ → List ℕ → List ℕ → List ℕ

@@ -1,22 +1,20 @@
 -- What filled tables give for a cell is what counting means. Assumes nothing.
-use mathlib.Core.Path.{_≡_, refl, sym, ap, ap₂, _∙_}
+use mathlib.Core.Path.{_≡_, sym, ap, ap₂, _∙_}
 use mathlib.Core.Bool.{true, not}
 use mathlib.Core.List.{List}
-use Prim.Native.Nat.{ℕ, suc, _+_, _-_, _*_, _%_, _^_, _≤_, _<_}
-use native.Mathlib.Nat.{mul-zero, one-mul}
+use Prim.Native.Nat.{ℕ, suc, _+_, _-_, _*_, _^_, _≤_, _<_}
+use native.Mathlib.Nat.{mul-zero}
 use native.Mathlib.Omega.{arith}
 use lib.Dec.{eqb, lit<}
 use lib.ListN.{length, getD}
-use lib.Pow.{shl-exact}
 use Rattle.told.specs.Told.{when}
 use Rattle.sizes.specs.Sizes.{values, highest, sums, SoundRow}
-use Rattle.listing.specs.Listing.{only, howMany, sumOver, below, onto, Written}
-use Rattle.listing.specs.Sums.{when-cong, sum-only, sum-cong-below, sum-short, sum-nil, sum-part, sum-le, howMany-sum, length-only, length-below}
-use Rattle.counting.specs.Counting.{lists, listed, domainOf, total, count, forward, backward, kept, gone, strike, struck}
+use Rattle.listing.specs.Listing.{only, howMany, sumOver, below, onto}
+use Rattle.listing.specs.Sums.{when-cong, sum-only, sum-cong-below, sum-short, sum-nil, sum-part, howMany-sum, length-only}
+use Rattle.counting.specs.Counting.{lists, listed, domainOf, total, count, forward, backward, kept, gone}
 use Rattle.counting.specs.Domains.{sum-listed, listed-le, domain-lt}
 use Rattle.counting.specs.Tables.{backward-high, total-backward}
 use Rattle.counting.specs.Counts.{count-law, count-le}
-use Rattle.counting.specs.Strikes.{strike-only}
 use Rattle.layers.specs.Tables.{forwardTable, backwardTable}
 use Rattle.layers.specs.TableLaws.{fits, forward-length, forward-at, backward-length, backward-at, holds-room, holds-onto}
 use Rattle.row.specs.Cells.{Filled, through, ways, Countable, keeps, loses}
@@ -46,10 +44,6 @@ module _ (d : ℕ) (n : ℕ → ℕ) where
 
     loses-same : sumOver (loses d n) (below values) ≡ sumOver (loses d m) (below values)
     loses-same = sum-cong-below _ _ values (λ v l. when-cong (lists d v) _ _ (λ e. ap (λ (k : ℕ). when (eqb k 0) 1) (same v l e)))
-
--- the bit of a value
-pub shl-one : (v : ℕ) → v < values → 1 * 2 ^ v % 2 ^ values ≡ 2 ^ v
-shl-one v h = shl-exact {a = 1} 1 v values (lit< tt) (omega arith) ∙ one-mul (2 ^ v)
 
 -- a cell that takes every sum above 511 has none
 pub ways-far : (f b : List ℕ) (p s : ℕ) → highest < s → 0 ≡ ways f b p s
@@ -128,19 +122,3 @@ module _ (ws ds : List ℕ) (low high : ℕ) (f b : List ℕ) (filled : Filled w
     pub gone-there : sumOver (loses (getD ds p 0) (λ v. ways f b p (getD ws p 0 * v))) (below values) ≡ length (gone ws ds low high p)
     unfolding gone
     gone-there = loses-same d (λ v. ways f b p (w * v)) (count ws ds low high p) ways-count ∙ gone-many d (count ws ds low high p)
-
--- ---- cell after cell
-
-module _ (ws ds : List ℕ) (low high : ℕ) where
-  pub gone-fits : (i : ℕ) → sumOver (λ p. length (gone ws ds low high p)) (below i) ≤ i * values
-  unfolding gone
-  gone-fits i =
-      rw (length-below i) at (sum-le (λ p. length (gone ws ds low high p)) values (below i)
-      (λ p. omega (arith, length-only (λ v. eqb (count ws ds low high p v) 0) (listed (getD ds p 0)), listed-le (getD ds p 0))))
-
-  pub all-struck : (es : List ℕ) → length es ≡ length ds → Written (λ p. domainOf (kept ws ds low high p)) ds es 0 (length ds) → es ≡ strike ws ds low high
-  all-struck es l w = strike-only ws ds low high es l (λ p h. w .inside p (omega arith) h)
-
-  pub all-gone : sumOver (λ p. length (gone ws ds low high p)) (below (length ds)) ≡ struck ws ds low high
-  unfolding struck
-  all-gone = refl

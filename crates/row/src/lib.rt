@@ -7,7 +7,7 @@ use sizes::length_refuses;
 use sizes::limits_refuse;
 ghost use mathlib.Core.Path.{_≡_};
 ghost use Rattle.told.specs.Told.{first};
-ghost use Rattle.row.specs.Answers.{told, listsRefuse, sizesRefuse, placeRefuses, totalSays, countSays, strikeSays, tables, rowLeaves, countLeaves, strikeLeaves};
+ghost use Rattle.row.specs.Answers.{told, listsRefuse, rowSizesRefuse, placeRefuses, totalSays, countSays, strikeSays, tables, rowLeaves, countLeaves, strikeLeaves};
 
 // A number, or the number for no.
 pub enum Answer {
@@ -109,7 +109,7 @@ fn row_refuses(
     forward: usize,
     backward: usize,
 ) -> u8
-    ensures { λ r. ⌜ r ≡ sizesRefuse weights cells low high forward backward ⌝ }
+    ensures { λ r. ⌜ r ≡ rowSizesRefuse weights cells low high forward backward ⌝ }
 {
     let by_lists = lists_refuse(weights, cells);
     if by_lists != 0 {
@@ -153,7 +153,7 @@ fn count_refuses(
     forward: usize,
     backward: usize,
 ) -> u8
-    ensures { λ r. ⌜ r ≡ first (sizesRefuse weights cells low high forward backward) (placeRefuses cells place value) ⌝ }
+    ensures { λ r. ⌜ r ≡ first (rowSizesRefuse weights cells low high forward backward) (placeRefuses cells place value) ⌝ }
 {
     let by_row = row_refuses(weights, cells, low, high, forward, backward);
     if by_row != 0 {

@@ -9,7 +9,7 @@ ghost use lib.ListN.{length};
 ghost use Rattle.sizes.specs.Sizes.{SoundRow};
 ghost use Rattle.listing.specs.Listing.{onto};
 ghost use Rattle.counting.specs.Counting.{size};
-ghost use Rattle.board.specs.RefusalLaws.{SoundLine, SoundBoard};
+ghost use Rattle.board.specs.Sound.{SoundLine, SoundBoard};
 ghost use Rattle.settling.specs.Settling.{Inside, Fits, gather, scatter, visit, pass, settle};
 ghost use Rattle.settling.specs.Boards.{rowWith, rowOf, rowsOf, settleRoom};
 ghost use Rattle.settle.specs.Settle.{tallyOf, boardValues};

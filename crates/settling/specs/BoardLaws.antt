@@ -10,7 +10,7 @@ use Rattle.listing.specs.Places.{place-none, place-more, place-length, place-at
 use Rattle.board.specs.declared.Row.{Row as Line}
 use Rattle.board.specs.declared.Board.{Board}
 use Rattle.board.specs.Board.{rowAt, SameRow, SameBoard}
-use Rattle.board.specs.RefusalLaws.{SoundLine, SoundBoard}
+use Rattle.board.specs.Sound.{SoundLine, SoundBoard}
 use Rattle.settling.specs.Settling.{Fits, Domains, Accepted, visit, pass}
 use Rattle.settling.specs.Passes.{pass-more}
 use Rattle.settling.specs.Boards.{front, rowWith, rowOf, rowsTo, rowsOf}

@@ -9,7 +9,7 @@ use Rattle.told.specs.ToldLaws.{says-no, says-yes, leaves-held, leaves-new, pas
 use Rattle.sizes.specs.Sizes.{tableSize, boardCells}
 use Rattle.listing.specs.Listing.{onto}
 use Rattle.board.specs.declared.Board.{Board}
-use Rattle.board.specs.RefusalLaws.{SoundBoard}
+use Rattle.board.specs.Sound.{SoundBoard}
 use Rattle.reader.specs.File.{boardIn}
 use Rattle.reader.specs.Reading.{fileRefuses}
 use Rattle.reader.specs.ReadingLaws.{said-read, said-refused}

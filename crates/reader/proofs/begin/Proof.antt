@@ -66,7 +66,7 @@ module _ {M : Type 1} (𝓤 : URA M) (H : Heap 𝓤) (A : Atoms 𝓤) (W : Given
   reader-typed : (n : ℕ) (u : Val) → Is usize n (u ∷ []) → WT (sliceAt s) → Holds (hasTy (F′.mir (named 0)) (machine u)) × WT (machine u)
   reader-typed n u is file-typed = subst (λ (w : Val). Holds (hasTy (F′.mir (named 0)) (machine w)) × WT (machine w)) (sym (ap only (is .0))) (tt, (file-typed, (record { fits = is .1 }, tt)))
 
-  -- what is had at exit: the place, the token and the file
+  -- what is had at exit: the rowPlace, the token and the file
   abbrev Left : ℕ → Val → List (Item 𝓤)
   Left n u = ‵ (usize .own n (u ∷ [])) ∷ (‵ (flft κ q) ⊛ ‵ ftrue) ∷ ‵ (Own κ s) ∷ []
 

@@ -1,6 +1,7 @@
 -- `reader::board_in` meets its contract: each part of the record is what the file holds, and a file that is not refused has room for it. Assumes nothing.
 use native.Mathlib.Omega.{arith}
-use Rattle.reader.specs.FileLaws.{SoundFile, file-sound}
+use Rattle.reader.specs.Sound.{SoundFile}
+use Rattle.reader.specs.FileLaws.{file-sound}
 use Rattle.reader.proofs.Steps.{board-is}
 use Rattle.reader.proofs.board_in.Statement.{statement}
 use Rattle.reader.proofs.board_in.Tie as tie

@@ -5,14 +5,15 @@ use native.Mathlib.Omega.{arith}
 use Rattle.sizes.specs.Sizes.{boardRows}
 use Rattle.board.specs.Board.{zeroRow, filled}
 use Rattle.board.specs.BoardLaws.{filled-start, filled-next, filled-end}
-use Rattle.reader.specs.File.{rowIn, place, lineIn}
-use Rattle.reader.specs.FileLaws.{SoundRowIn, file-sound}
+use Rattle.reader.specs.File.{rowIn, rowPlace, lineIn}
+use Rattle.reader.specs.Sound.{SoundRowIn}
+use Rattle.reader.specs.FileLaws.{file-sound}
 use Rattle.reader.proofs.Steps.{place-start, place-next}
 use Rattle.reader.proofs.lines_in.Statement.{statement}
 use Rattle.reader.proofs.lines_in.Tie as tie
 
 abbrev Inv-loop : tie.InvT-loop
-Inv-loop file cells rows lines₀ at₀ i₀ lines at i = (i ≤ rows) × (at ≡ place file i) × (lines ≡ filled (lineIn file) zeroRow i boardRows)
+Inv-loop file cells rows lines₀ at₀ i₀ lines at i = (i ≤ rows) × (at ≡ rowPlace file i) × (lines ≡ filled (lineIn file) zeroRow i boardRows)
 
 abbrev μ-loop : tie.MeasureT-loop
 μ-loop file cells rows lines₀ at₀ i₀ lines at i = rows - i

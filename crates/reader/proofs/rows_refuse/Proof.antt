@@ -5,7 +5,7 @@ use native.Mathlib.Omega.{arith}
 use lib.ListN.{length}
 use Rattle.told.specs.Told.{firsts}
 use Rattle.told.specs.ToldLaws.{firsts-start, firsts-next}
-use Rattle.reader.specs.File.{place}
+use Rattle.reader.specs.File.{rowPlace}
 use Rattle.reader.specs.Reading.{rowInRefuses, lineInRefuses}
 use Rattle.reader.specs.FileLaws.{row-in-sound}
 use Rattle.reader.proofs.Steps.{place-start, place-next, rows-stop, rows-end}
@@ -13,7 +13,7 @@ use Rattle.reader.proofs.rows_refuse.Statement.{statement}
 use Rattle.reader.proofs.rows_refuse.Tie as tie
 
 abbrev Inv-loop : tie.InvT-loop
-Inv-loop file end rows at₀ i₀ at i = (i ≤ rows) × (at ≡ place file i) × (at + 6 ≤ length file) × (firsts (lineInRefuses file) i ≡ 0)
+Inv-loop file end rows at₀ i₀ at i = (i ≤ rows) × (at ≡ rowPlace file i) × (at + 6 ≤ length file) × (firsts (lineInRefuses file) i ≡ 0)
 
 abbrev μ-loop : tie.MeasureT-loop
 μ-loop file end rows at₀ i₀ at i = rows - i

@@ -2,7 +2,8 @@
 use mathlib.Core.Path.{_≡_, sym, _∙_}
 use lib.ListN.{length}
 use Rattle.sizes.specs.Sizes.{boardCells}
-use Rattle.board.specs.RefusalLaws.{SoundBoard, board-sound}
+use Rattle.board.specs.Sound.{SoundBoard}
+use Rattle.board.specs.RefusalLaws.{board-sound}
 use borrow.Author.Needs.{needs}
 use Rattle.run_settle.proofs.show.Statement.{statement}
 use Rattle.run_settle.proofs.show.Tie as tie

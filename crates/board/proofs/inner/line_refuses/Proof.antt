@@ -2,7 +2,7 @@
 use native.Mathlib.Omega.{arith}
 use mathlib.Core.Path.{sym, _∙_}
 use Rattle.told.specs.ToldLaws.{past-call, at-call}
-use Rattle.board.specs.Refusals.{rowRefuses}
+use Rattle.board.specs.Refusals.{boardRowRefuses}
 use Rattle.board.specs.RefusalLaws.{head-sound}
 use Rattle.board.proofs.inner.line_refuses.Statement.{statement}
 use Rattle.board.proofs.inner.line_refuses.Tie as tie
@@ -17,7 +17,7 @@ head-refuses-requires : tie.Need-head-refuses-requires
 head-refuses-requires c κs = omega arith
 
 returns : tie.Need-returns
-unfolding rowRefuses
+unfolding boardRowRefuses
 returns c = at-call _ _ _ (c .before .head-refuses .ensures) (c .if1 .taken)
 
 pairs-refuse-requires : tie.Need-pairs-refuse-requires
@@ -26,7 +26,7 @@ pairs-refuse-requires c κs =
     head-sound _ _ _ (sym (h .before .head-refuses .ensures) ∙ h .if1 .left) .most
 
 returns-2 : tie.Need-returns-2
-unfolding rowRefuses
+unfolding boardRowRefuses
 returns-2 c =
     let h = c .before .before in
     past-call _ _ _ _ (h .before .head-refuses .ensures) (h .if1 .left) (c .pairs-refuse .ensures)

@@ -12,7 +12,7 @@ use Rattle.choosing.specs.Choosing.{Candidate, ofRow}
 use Rattle.choosing.specs.Going.{through}
 use Rattle.choosing.specs.GoingLaws.{through-start, through-turn, through-end}
 use Rattle.beat.specs.Beat.{tiesOf, leaderOf, HasTotal}
-use Rattle.choose.specs.Advice.{Kept}
+use Rattle.choose.specs.Advice.{SameRest}
 use Rattle.choose.specs.StepLaws.{rows-candidates, row-in}
 use Rattle.choose.proofs.inner.with_rows.Statement.{statement}
 use Rattle.choose.proofs.inner.with_rows.Tie as tie
@@ -24,8 +24,8 @@ Inv-loop ties domains forward₀ backward₀ board rows best₀ i₀ forward bac
     × HasTotal best
     × (length forward ≡ length forward₀)
     × (length backward ≡ length backward₀)
-    × Kept forward₀ forward
-    × Kept backward₀ backward
+    × SameRest forward₀ forward
+    × SameRest backward₀ backward
 
 abbrev μ-loop : tie.MeasureT-loop
 μ-loop ties domains forward₀ backward₀ board rows best₀ i₀ forward backward best i = rows - i

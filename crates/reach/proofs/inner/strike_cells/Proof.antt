@@ -3,8 +3,10 @@ use mathlib.Core.Path.{_≡_}
 use Prim.Native.Nat.{_+_, _-_, _≤_}
 use native.Mathlib.Omega.{arith}
 use lib.ListN.{length, set}
-use Rattle.reach.specs.Reach.{Tables, StruckTo}
-use Rattle.reach.specs.Uses.{struck-none, struck-more, struck-fits, struck-number, struck-domains}
+use Rattle.counting.specs.Steps.{StruckTo}
+use Rattle.counting.specs.StepLaws.{struck-none, struck-fits, struck-all}
+use Rattle.reach.specs.Reach.{Tables}
+use Rattle.reach.specs.Uses.{used-more}
 use borrow.Author.Needs.{needs}
 use Rattle.reach.proofs.inner.strike_cells.Statement.{statement}
 use Rattle.reach.proofs.inner.strike_cells.Tie as tie
@@ -23,7 +25,7 @@ cell : (c : tie.After-strike-cell Inv-loop μ-loop)
     StruckTo (a .weights .now) (a .domains .now) (a .low) (a .high) (set (l .domains) (l .i) (r .domain)) (l .n + r .gone) (l .i + 1)
 cell c =
     let l = c .before .before .before .before .before .before .loop in
-    struck-more _ _ _ _ _ _ _ _ (l .i) _ _ (l .inv .2) (l .inv .1) (c .before .before .before .before .before .loop-test .taken) (c .strike-cell .ensures .0) (c .strike-cell .ensures .1)
+    used-more _ _ _ _ _ _ _ _ (l .i) _ _ (l .inv .2) (l .inv .1) (c .before .before .before .before .before .loop-test .taken) (c .strike-cell .ensures .0) (c .strike-cell .ensures .1)
 
 mark-forward-requires : tie.Need-mark-forward-requires Inv-loop μ-loop
 mark-forward-requires c κs =
@@ -99,8 +101,7 @@ returns : tie.Need-returns Inv-loop μ-loop
 returns c =
     let l = c .before .loop in
     let e : l .i ≡ length (c .before .before .before .before .before .before .before .before .before .before .before .before .before .before .before .before .args .domains .now) = omega (arith, l .inv .0, l .inv .1 .size, c .loop-test .left) in
-    let s = rw e at (l .inv .1) in
-    (struck-number _ _ _ _ _ _ s, struck-domains _ _ _ _ _ _ s)
+    struck-all _ _ _ _ _ _ _ (l .inv .1) e
 
 pub strike-cells-spec : {M : Type 1} → statement M
 strike-cells-spec =

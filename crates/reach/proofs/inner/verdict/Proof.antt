@@ -3,7 +3,8 @@ use mathlib.Core.Path.{sym, ap, _∙_}
 use mathlib.Core.Bool.{not}
 use native.Mathlib.Omega.{arith}
 use borrow.Author.Tests.{not-true, not-false}
-use Rattle.reach.specs.Halving.{brings-fits, power, unlisted-brings, failed-brings, passed-brings}
+use Rattle.counting.specs.StepLaws.{value-bit}
+use Rattle.reach.specs.Halving.{brings-fits, unlisted-brings, failed-brings, passed-brings}
 use borrow.Author.Needs.{needs}
 use Rattle.reach.proofs.inner.verdict.Statement.{statement}
 use Rattle.reach.proofs.inner.verdict.Tie as tie
@@ -29,7 +30,7 @@ returns-2 : tie.Need-returns-2
 returns-2 c =
     let e = not-false (c .before .before .before .before .before .args .listed) (c .before .before .if1 .left) in
     let u = sym (c .before .used .ensures) ∙ c .if2 .taken in
-    (power _ (search needs) ∙ passed-brings _ _ _ e u, failed-brings _ _ _ e (ap not u))
+    (value-bit _ (search needs) ∙ passed-brings _ _ _ e u, failed-brings _ _ _ e (ap not u))
 
 returns-3 : tie.Need-returns-3
 returns-3 c =

@@ -4,7 +4,8 @@ use native.Mathlib.Omega.{arith}
 use borrow.Author.Needs.{needs}
 use borrow.Author.Tests.{eq-eqb, ne-eqb}
 use Rattle.layers.specs.StepLaws.{heaviest}
-use Rattle.row.specs.CellLaws.{shl-one, ways-ready}
+use Rattle.counting.specs.StepLaws.{value-bit}
+use Rattle.row.specs.CellLaws.{ways-ready}
 use Rattle.row.proofs.inner.strike_value.Statement.{statement}
 use Rattle.row.proofs.inner.strike_value.Tie as tie
 
@@ -43,7 +44,7 @@ returns-3 : tie.Need-returns-3
 returns-3 c =
     let listed = eq-eqb _ _ (c .before .before .if1 .left) in
     let some = ne-eqb _ _ (λ e. c .if2 .left (c .before .ways .ensures ∙ e)) in
-    (simp (listed, some) (shl-one _ (search needs)), simp (listed, some))
+    (simp (listed, some) (value-bit _ (search needs)), simp (listed, some))
 
 pub strike-value-spec : {M : Type 1} → statement M
 strike-value-spec =

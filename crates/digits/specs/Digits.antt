@@ -1,0 +1,18 @@
+-- The number that a word spells, digit by digit. Definitions only.
+use mathlib.Core.Bool.{cond}
+use mathlib.Core.List.{List}
+use Prim.Native.Nat.{ℕ, zero, suc, _+_, _*_, _%_}
+use lib.Dec.{ltb}
+use lib.ListN.{length, getD}
+
+-- a number with one digit more; past a million no digit counts any more
+unfoldable pub withDigit : ℕ → ℕ → ℕ
+withDigit n digit = cond (ltb 1000000 n) n (10 * n + digit % 16)
+
+-- the number that the first i bytes spell, and the whole word
+unfoldable pub spelledTo : List ℕ → ℕ → ℕ
+spelledTo word zero = 0
+spelledTo word (suc i) = withDigit (spelledTo word i) (getD word i 0)
+
+abbrev pub spelled : List ℕ → ℕ
+spelled word = spelledTo word (length word)
