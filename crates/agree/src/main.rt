@@ -10,7 +10,8 @@ use sizes::TABLE;
 ghost use mathlib.Core.Path.{_≡_};
 ghost use Prim.Native.Nat.{_<_, _≤_};
 ghost use lib.ListN.{length};
-ghost use Rattle.sizes.specs.Sizes.{rowCells, highest, SoundRow};
+ghost use Rattle.sizes.specs.Sizes.{rowCells, highest};
+ghost use Rattle.sizes.specs.Sound.{SoundRow};
 
 // Kinds of row: all values, holes, weight 0, one sum, every sum, empty domains.
 const FULL: u64 = 0;

@@ -1,8 +1,7 @@
 -- What the answer of a choice says, and what its tables then hold. Definitions only.
-use mathlib.Core.Path.{_≡_}
 use mathlib.Core.List.{List}
 use Prim.Native.Nat.{ℕ}
-use lib.ListN.{drop, replicate}
+use lib.ListN.{replicate}
 use Rattle.sizes.specs.Sizes.{tableSize}
 use Rattle.listing.specs.Listing.{onto}
 use Rattle.choosing.specs.Choosing.{Choice, dead, settled, advise}
@@ -18,7 +17,3 @@ told (Advise cell value row count total share) = advise (record { row = row; cel
 -- a table whose first 5,632 entries are made zero; the rest is unchanged
 unfoldable pub cleared : List ℕ → List ℕ
 cleared table = onto (replicate tableSize 0) table
-
--- the rest of a table is unchanged
-abbrev pub SameRest : List ℕ → List ℕ → Type 0
-SameRest old new = drop tableSize new ≡ drop tableSize old

@@ -6,7 +6,8 @@ use native.Mathlib.Omega.{arith}
 use lib.Ieee.{Float}
 use lib.ListN.{length, drop, replicate, length-replicate, getD-replicate}
 use Rattle.sizes.specs.Sizes.{rowCells, sums, tableSize}
-use Rattle.listing.specs.Listing.{byPlace, onto, Written}
+use Rattle.listing.specs.Listing.{byPlace, onto}
+use Rattle.listing.specs.Written.{Written}
 use Rattle.listing.specs.Places.{place-only, onto-late}
 use Rattle.listing.specs.Writing.{written-onto}
 use Rattle.choosing.specs.Choosing.{Choice, dead, settled, advise}
@@ -18,7 +19,8 @@ use Rattle.beat.specs.declared.Leader.the-variants.{Leads}
 use Rattle.beat.specs.Beat.{candidateOf, leaderOf}
 use Rattle.choose.specs.declared.Advice.{Advice}
 use Rattle.choose.specs.declared.Advice.the-variants.{Dead, Settled, Advise}
-use Rattle.choose.specs.Advice.{told, cleared, SameRest}
+use Rattle.choose.specs.Advice.{told, cleared}
+use Rattle.choose.specs.Steps.{SameRest}
 
 -- ---- tables
 

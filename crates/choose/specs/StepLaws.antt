@@ -8,7 +8,8 @@ use native.Mathlib.Omega.{arith}
 use lib.Dec.{eqb}
 use lib.ListN.{length, getD}
 use Rattle.told.specs.Told.{when}
-use Rattle.sizes.specs.Sizes.{values, rowCells, tableSize, SoundRow}
+use Rattle.sizes.specs.Sizes.{values, rowCells, tableSize}
+use Rattle.sizes.specs.Sound.{SoundRow}
 use Rattle.listing.specs.Listing.{keep, below, sumOver, onto}
 use Rattle.listing.specs.Sums.{sum-nil, sum-turn}
 use Rattle.listing.specs.Places.{place-length, place-at, place-member}
@@ -30,7 +31,7 @@ use Rattle.choosing.specs.Choosing as choosing
 use Rattle.choosing.specs.Going.{Leader, through}
 use Rattle.choosing.specs.GoingLaws.{through-none, through-end}
 use Rattle.choosing.specs.CandidateLaws.{ofValue, place-several, place-few}
-use Rattle.choose.specs.Advice.{SameRest}
+use Rattle.choose.specs.Steps.{SameRest}
 use Rattle.choose.specs.AdviceLaws.{filled-kept}
 use Rattle.choose.specs.Steps.{Ready}
 

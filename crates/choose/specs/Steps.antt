@@ -1,8 +1,8 @@
--- What the steps of the choice require. Definitions only.
+-- What the steps of the choice require, and leave of the tables. Definitions only.
 use mathlib.Core.Path.{_≡_}
 use mathlib.Core.List.{List}
 use Prim.Native.Nat.{ℕ, _≤_}
-use lib.ListN.{length}
+use lib.ListN.{length, drop}
 use Rattle.sizes.specs.Sizes.{tableSize}
 use Rattle.board.specs.declared.Board.{Board}
 use Rattle.board.specs.Sound.{SoundBoard}
@@ -25,3 +25,7 @@ pub record Ready (r : Row) (d part : List ℕ) (total : ℕ) (forward backward :
   pub part-is : part ≡ gather d (r .cells)
   pub total-is : total ≡ rowTotal r d
   pub filled : Filled (r .weights) part (r .low) (r .high) forward backward
+
+-- the rest of a table is unchanged
+abbrev pub SameRest : List ℕ → List ℕ → Type 0
+SameRest old new = drop tableSize new ≡ drop tableSize old

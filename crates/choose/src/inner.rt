@@ -16,7 +16,8 @@ use sizes::VALUES;
 ghost use mathlib.Core.Path.{_≡_};
 ghost use Prim.Native.Nat.{_≤_, _<_, _^_};
 ghost use lib.ListN.{length};
-ghost use Rattle.sizes.specs.Sizes.{tableSize, SoundRow};
+ghost use Rattle.sizes.specs.Sizes.{tableSize};
+ghost use Rattle.sizes.specs.Sound.{SoundRow};
 ghost use Rattle.counting.specs.Counting.{listed};
 ghost use Rattle.board.specs.Sound.{SoundLine};
 ghost use Rattle.settling.specs.Settling.{Fits, Supported};
@@ -26,7 +27,8 @@ ghost use Rattle.choosing.specs.Going.{nobody, through, outcome};
 ghost use Rattle.beat.specs.Beat.{tiesOf, leaderOf, HasTotal};
 ghost use Rattle.beat.specs.declared.Candidate.{Candidate};
 ghost use Rattle.beat.specs.declared.Leader.the-variants.{Leads};
-ghost use Rattle.choose.specs.Advice.{told, cleared, SameRest};
+ghost use Rattle.choose.specs.Advice.{told, cleared};
+ghost use Rattle.choose.specs.Steps.{SameRest};
 ghost use Rattle.choose.specs.Steps.{Choosable, Ready};
 
 // Chooses a move, and leaves zeros in the first 5,632 entries of the tables.

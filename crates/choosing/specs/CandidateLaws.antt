@@ -16,7 +16,8 @@ use Rattle.counting.specs.Counts.{count-total}
 use Rattle.counting.specs.Tables.{total-le}
 use Rattle.settling.specs.Settling.{Row, _∈_, Accepted, gather, rowCount, Consistent}
 use Rattle.settling.specs.Cells.{gather-length}
-use Rattle.choosing.specs.Choosing.{Candidate, noRow, rowAt, domainAt, choices, candidate, ofPlace, ofRow, candidates, Open}
+use Rattle.choosing.specs.Choosing.{Candidate, noRow, rowAt, domainAt, choices, candidate, ofPlace, ofRow, candidates}
+use Rattle.choosing.specs.Promised.{Open}
 use Rattle.choosing.specs.Going.{Live, Apart}
 
 -- ---- the values to choose from

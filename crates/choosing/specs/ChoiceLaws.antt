@@ -18,7 +18,8 @@ use Rattle.counting.specs.Domains.{empty-only}
 use Rattle.settling.specs.Settling.{Row, _∈_, Accepted, settle, Consistent}
 use Rattle.settling.specs.Demand3.{largest-family, left-accepted}
 use Rattle.fraction.specs.Share.{shareOf}
-use Rattle.choosing.specs.Choosing.{Candidate, Ties, noRow, rowAt, domainAt, candidate, candidates, Choice, dead, settled, advise, someEmpty, choose, SomeEmpty, NoneEmpty, Single, Open, Best, Promised}
+use Rattle.choosing.specs.Choosing.{Candidate, Ties, noRow, rowAt, domainAt, candidate, candidates, Choice, dead, settled, advise, someEmpty, choose}
+use Rattle.choosing.specs.Promised.{SomeEmpty, NoneEmpty, Single, Open, Best, Promised}
 use Rattle.choosing.specs.Going.{Leader, nobody, leads, through, outcome}
 use Rattle.choosing.specs.GoingLaws.{Finds, finds, best-alone, through-advises}
 use Rattle.choosing.specs.CandidateLaws.{in-listed, listed-in, candidate-there, apart, is-open, live, numbers-fit}

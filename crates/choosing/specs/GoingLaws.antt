@@ -12,7 +12,8 @@ use borrow.Author.Tests.{eqb-true, eq-eqb}
 use Rattle.listing.specs.Listing.{keep, only, howMany, below}
 use Rattle.listing.specs.Sums.{never}
 use Rattle.listing.specs.Members.{none-pass, each-fails, flat-none, flat-more}
-use Rattle.choosing.specs.Choosing.{Candidate, Ties, toLowest, toHighest, byDensity, byCell, byValue, byRow, byTies, andThen, isAbove, stands, beats, unbeaten, settled, advised, Best}
+use Rattle.choosing.specs.Choosing.{Candidate, Ties, toLowest, toHighest, byDensity, byCell, byValue, byRow, byTies, andThen, isAbove, stands, beats, unbeaten, settled, advised}
+use Rattle.choosing.specs.Promised.{Best}
 use Rattle.choosing.specs.Orders.{Lawful, flip, keyed, both, then-eq, numbers, lower, eq-only, Fraction, fractions}
 use Rattle.choosing.specs.Going.{Leader, nobody, leads, raise, through, outcome, Live, Apart}
 

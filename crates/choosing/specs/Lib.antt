@@ -1,4 +1,5 @@
 pub mod Choosing
+pub mod Promised
 pub mod CheckedExamples
 pub mod Orders
 pub mod Going

@@ -3,7 +3,8 @@ use mathlib.Core.Path.{_≡_}
 use mathlib.Core.List.{List}
 use Prim.Native.Nat.{ℕ}
 use lib.ListN.{length}
-use Rattle.listing.specs.Listing.{sumOver, below, Written}
+use Rattle.listing.specs.Listing.{sumOver, below}
+use Rattle.listing.specs.Written.{Written}
 use Rattle.counting.specs.Counting.{domainOf, kept, gone}
 
 -- es is ds with the first i domains struck, which lose n values

@@ -11,7 +11,7 @@ use lib.ListN.{length, getD, take, drop, length-take, length-drop, List·getD-ap
 use lib.Seq.{getD-take, getD-drop, getD-append-add}
 use Rattle.told.specs.Told.{when}
 use Rattle.sizes.specs.Sizes.{values, highest, sums}
-use Rattle.listing.specs.Listing.{Written}
+use Rattle.listing.specs.Written.{Written}
 use Rattle.listing.specs.Sums.{sum-cong}
 use Rattle.counting.specs.Counting.{within, listed, forward, backward}
 use Rattle.counting.specs.Tables.{forward-suc, backward-suc, backward-high}

@@ -8,12 +8,14 @@ use lib.Dec.{lit<}
 use lib.ListN.{length, getD, length-take}
 use lib.Seq.{getD-take}
 use Rattle.sizes.specs.Sizes.{values, rowCells, sums}
-use Rattle.listing.specs.Listing.{byPlace, onto, Written}
+use Rattle.listing.specs.Listing.{byPlace, onto}
+use Rattle.listing.specs.Written.{Written}
 use Rattle.listing.specs.Places.{place-length, place-at, onto-take}
 use Rattle.listing.specs.Writing.{written-as, written-onto}
 use Rattle.counting.specs.Counting.{forward, backward}
 use Rattle.counting.specs.Tables.{forward-le, backward-le}
-use Rattle.layers.specs.Tables.{atEntry, forwardTable, backwardTable, Holds}
+use Rattle.layers.specs.Tables.{atEntry, forwardTable, backwardTable}
+use Rattle.layers.specs.Steps.{Holds}
 
 -- every number fits 64 bits: 32 to the tenth does
 pub fits : (n i : ℕ) → i ≤ rowCells → n ≤ values ^ i → n < 2 ^ 64

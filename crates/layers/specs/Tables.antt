@@ -1,9 +1,8 @@
 -- The two tables of a row: entry 512 * i + b is the number at (i, b), for i from 0 to the row's length and b from 0 to 511. Definitions only.
-use mathlib.Core.Path.{_≡_}
 use mathlib.Core.List.{List}
-use Prim.Native.Nat.{ℕ, suc, _*_, _/_, _%_, _≤_}
-use lib.ListN.{length, take}
-use Rattle.sizes.specs.Sizes.{sums, tableSize, SoundRow}
+use Prim.Native.Nat.{ℕ, suc, _*_, _/_, _%_}
+use lib.ListN.{length}
+use Rattle.sizes.specs.Sizes.{sums}
 use Rattle.listing.specs.Listing.{byPlace}
 use Rattle.counting.specs.Counting.{forward, backward}
 
@@ -16,13 +15,3 @@ forwardTable ws ds = byPlace (atEntry (forward ws ds)) (sums * suc (length ds))
 
 unfoldable pub backwardTable : List ℕ → List ℕ → ℕ → ℕ → List ℕ
 backwardTable ws ds low high = byPlace (atEntry (backward ws ds low high)) (sums * suc (length ds))
-
--- a sound row, and tables with room for any
-pub record Fillable (ws ds : List ℕ) (low high : ℕ) (forward backward : List ℕ) : Type 0 where
-  pub sound : SoundRow ws ds low high
-  pub forward-room : tableSize ≤ length forward
-  pub backward-room : tableSize ≤ length backward
-
--- a room holds a table at its front
-abbrev pub Holds : List ℕ → List ℕ → Type 0
-Holds table room = take (length table) room ≡ table

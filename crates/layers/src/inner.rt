@@ -7,9 +7,11 @@ ghost use Prim.Native.Nat.{ℕ, _+_, _-_, _*_, _^_, _<_, _≤_};
 ghost use lib.ListN.{length, getD};
 ghost use Rattle.told.specs.Told.{when};
 ghost use Rattle.sizes.specs.Sizes.{values, rowCells, highest, sums, tableSize};
-ghost use Rattle.listing.specs.Listing.{onto, Written};
+ghost use Rattle.listing.specs.Listing.{onto};
+ghost use Rattle.listing.specs.Written.{Written};
 ghost use Rattle.counting.specs.Counting.{lists, within};
-ghost use Rattle.layers.specs.Tables.{forwardTable, backwardTable, Fillable};
+ghost use Rattle.layers.specs.Tables.{forwardTable, backwardTable};
+ghost use Rattle.layers.specs.Steps.{Fillable};
 ghost use Rattle.layers.specs.Steps.{moved, step};
 
 // Fills both tables of a row.

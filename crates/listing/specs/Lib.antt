@@ -1,4 +1,5 @@
 pub mod Listing
+pub mod Written
 pub mod Sums
 pub mod Places
 pub mod Writing

@@ -1,9 +1,8 @@
 -- Lists by their members and by their places, and sums over them. Definitions only.
-use mathlib.Core.Path.{_≡_}
 use mathlib.Core.Bool.{Bool, true, false}
 use mathlib.Core.List.{List, [], _∷_, _++_, map}
-use Prim.Native.Nat.{ℕ, zero, suc, _+_, _≤_, _<_}
-use lib.ListN.{length, getD, drop}
+use Prim.Native.Nat.{ℕ, zero, suc, _+_}
+use lib.ListN.{length, drop}
 
 abbrev pub keep : {A : Type 0} → Bool → A → List A → List A
 keep true x xs = x ∷ xs
@@ -35,9 +34,3 @@ byPlace g n = map g (below n)
 -- a room that held old after new was written at its front; the rest is unchanged
 unfoldable pub onto : {A : Type 0} → List A → List A → List A
 onto new old = new ++ drop (length new) old
-
--- new is old with g k written at each place k from lo to hi - 1; the rest is unchanged
-pub record Written (g : ℕ → ℕ) (old new : List ℕ) (lo hi : ℕ) : Type 0 where
-  pub inside : (k : ℕ) → lo ≤ k → k < hi → getD new k 0 ≡ g k
-  pub early : (k : ℕ) → k < lo → getD new k 0 ≡ getD old k 0
-  pub late : (k : ℕ) → hi ≤ k → getD new k 0 ≡ getD old k 0

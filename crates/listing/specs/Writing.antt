@@ -8,7 +8,8 @@ use lib.Dec.{ltb}
 use borrow.Author.Tests.{ltb-true, ltb-false}
 use lib.ListN.{length, getD, set}
 use lib.Seq.{getD-set-same, getD-set-other}
-use Rattle.listing.specs.Listing.{byPlace, onto, Written}
+use Rattle.listing.specs.Listing.{byPlace, onto}
+use Rattle.listing.specs.Written.{Written}
 use Rattle.listing.specs.Places.{place-length, place-at, onto-only}
 
 -- nothing is written yet

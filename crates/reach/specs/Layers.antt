@@ -10,7 +10,8 @@ use lib.Dec.{leb, ltb, eqb}
 use lib.ListN.{length, getD}
 use borrow.Author.Tests.{le-leb, lt-leb, ne-eqb, eqb-false, leb-true, leb-false, ltb-true, ltb-false}
 use Rattle.told.specs.Told.{when}
-use Rattle.sizes.specs.Sizes.{values, rowCells, highest, sums, SoundRow}
+use Rattle.sizes.specs.Sizes.{values, rowCells, highest, sums}
+use Rattle.sizes.specs.Sound.{SoundRow}
 use Rattle.listing.specs.Listing.{sumOver}
 use Rattle.listing.specs.Sums.{never}
 use Rattle.counting.specs.Counting.{lists, listed, within, forward, backward}

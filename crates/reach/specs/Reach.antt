@@ -7,7 +7,8 @@ use Prim.Native.Nat.{ℕ, _+_, _-_, _*_, _≤_, _<_}
 use lib.Dec.{leb}
 use lib.ListN.{length}
 use Rattle.told.specs.Told.{when}
-use Rattle.sizes.specs.Sizes.{values, highest, sums, SoundRow}
+use Rattle.sizes.specs.Sizes.{values, highest, sums}
+use Rattle.sizes.specs.Sound.{SoundRow}
 use Rattle.listing.specs.Listing.{sumOver, below}
 use Rattle.counting.specs.Counting.{lists, forward, backward}
 use Rattle.words.specs.Words.{wordBits, setWords, has, any, aboveZero, both}

@@ -10,7 +10,7 @@ use Rattle.told.specs.Told.{Told, refused, says, when}
 use Rattle.told.specs.ToldLaws.{neither, not-held}
 use Rattle.sizes.specs.Sizes.{values, tableSize, lengthRefuses, limitsRefuse}
 use Rattle.sizes.specs.SizeLaws.{length-sound, limits-sound}
-use Rattle.layers.specs.Tables.{Fillable}
+use Rattle.layers.specs.Steps.{Fillable}
 use Rattle.row.specs.declared.Answer.{Answer}
 use Rattle.row.specs.declared.Answer.the-variants.{Number, Refused}
 use Rattle.row.specs.Answers.{told, listsRefuse, placeRefuses, rowRefuses, tables}

@@ -8,7 +8,8 @@ use native.Mathlib.Omega.{arith}
 use lib.Dec.{eqb, lit<}
 use lib.ListN.{length, getD}
 use Rattle.told.specs.Told.{when}
-use Rattle.sizes.specs.Sizes.{values, highest, sums, SoundRow}
+use Rattle.sizes.specs.Sizes.{values, highest, sums}
+use Rattle.sizes.specs.Sound.{SoundRow}
 use Rattle.listing.specs.Listing.{only, howMany, sumOver, below, onto}
 use Rattle.listing.specs.Sums.{when-cong, sum-only, sum-cong-below, sum-short, sum-nil, sum-part, howMany-sum, length-only}
 use Rattle.counting.specs.Counting.{lists, listed, domainOf, total, count, forward, backward, kept, gone}

@@ -6,10 +6,12 @@ use Prim.Native.Nat.{ℕ, _+_, _-_, _*_, _^_, _≤_, _<_}
 use lib.Dec.{eqb}
 use lib.ListN.{length, getD}
 use Rattle.told.specs.Told.{when}
-use Rattle.sizes.specs.Sizes.{values, sums, SoundRow}
+use Rattle.sizes.specs.Sizes.{values, sums}
+use Rattle.sizes.specs.Sound.{SoundRow}
 use Rattle.listing.specs.Listing.{sumOver, below}
 use Rattle.counting.specs.Counting.{lists}
-use Rattle.layers.specs.Tables.{forwardTable, backwardTable, Holds}
+use Rattle.layers.specs.Tables.{forwardTable, backwardTable}
+use Rattle.layers.specs.Steps.{Holds}
 
 -- a sound row, and tables that hold its numbers
 pub record Filled (ws ds : List ℕ) (low high : ℕ) (forward backward : List ℕ) : Type 0 where

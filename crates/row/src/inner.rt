@@ -9,7 +9,8 @@ ghost use Rattle.told.specs.Told.{when};
 ghost use Rattle.sizes.specs.Sizes.{values, sums};
 ghost use Rattle.listing.specs.Listing.{onto, sumOver, below};
 ghost use Rattle.counting.specs.Counting.{lists, total, count, strike, struck};
-ghost use Rattle.layers.specs.Tables.{forwardTable, backwardTable, Fillable};
+ghost use Rattle.layers.specs.Tables.{forwardTable, backwardTable};
+ghost use Rattle.layers.specs.Steps.{Fillable};
 ghost use Rattle.row.specs.Cells.{Filled, Countable, ways, keeps, loses};
 
 // Fills both tables, and answers the total.

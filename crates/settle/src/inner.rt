@@ -6,7 +6,7 @@ use sizes::ROW_CELLS;
 ghost use mathlib.Core.Path.{_≡_};
 ghost use Prim.Native.Nat.{_+_, _≤_};
 ghost use lib.ListN.{length};
-ghost use Rattle.sizes.specs.Sizes.{SoundRow};
+ghost use Rattle.sizes.specs.Sound.{SoundRow};
 ghost use Rattle.listing.specs.Listing.{onto};
 ghost use Rattle.counting.specs.Counting.{size};
 ghost use Rattle.board.specs.Sound.{SoundLine, SoundBoard};

@@ -1,9 +1,6 @@
--- Document 01's sizes, each number under one name, the two refusals that every row shares, and what a row is that they let pass. Definitions only.
-use mathlib.Core.Path.{_≡_}
-use mathlib.Core.List.{List}
-use Prim.Native.Nat.{ℕ, _≤_, _<_}
+-- Document 01's sizes, each number under one name, and the two refusals that every row shares. Definitions only.
+use Prim.Native.Nat.{ℕ}
 use lib.Dec.{eqb, ltb}
-use lib.ListN.{length}
 use Rattle.told.specs.Told.{when, first}
 
 -- values are 0 to 31
@@ -44,11 +41,3 @@ lengthRefuses cells = first (when (eqb cells 0) 1) (when (ltb rowCells cells) 1)
 -- 2: low above high, or high above 511
 abbrev pub limitsRefuse : ℕ → ℕ → ℕ
 limitsRefuse low high = first (when (ltb high low) 2) (when (ltb highest high) 2)
-
--- weights, domains and limits that neither 1 nor 2 refuses
-pub record SoundRow (ws ds : List ℕ) (low high : ℕ) : Type 0 where
-  pub some : 0 < length ds
-  pub most : length ds ≤ rowCells
-  pub same : length ws ≡ length ds
-  pub ordered : low ≤ high
-  pub limit : high ≤ highest

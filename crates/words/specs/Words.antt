@@ -5,7 +5,7 @@ use mathlib.Core.List.{List}
 use Prim.Native.Nat.{ℕ, zero, suc, _+_, _-_, _*_, _/_, _%_, _≤_, _<_}
 use lib.Dec.{eqb}
 use lib.ListN.{length, getD, replicate}
-use Rattle.listing.specs.Listing.{Written}
+use Rattle.listing.specs.Written.{Written}
 use Rattle.counting.specs.Counting.{lists}
 
 -- bits in a word

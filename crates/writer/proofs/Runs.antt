@@ -7,7 +7,8 @@ use native.Mathlib.Numerals.{add-one}
 use native.Mathlib.Omega.{arith}
 use lib.ListN.{length, set}
 use lib.Seq.{sets}
-use Rattle.writer.specs.Bytes.{joined, Put}
+use Rattle.writer.specs.Bytes.{joined}
+use Rattle.writer.specs.Steps.{Put}
 use lib.Seq.{sets-eq}
 use Rattle.listing.specs.Listing.{onto}
 

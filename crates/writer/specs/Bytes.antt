@@ -1,10 +1,7 @@
 -- The bytes of a board: what a board file holds, part by part. Definitions only.
-use mathlib.Core.Path.{_≡_}
 use mathlib.Core.List.{List, [], _∷_, _++_}
-use Prim.Native.Nat.{ℕ, zero, suc, _*_, _/_, _%_, _≤_, _<_}
+use Prim.Native.Nat.{ℕ, zero, suc, _*_, _/_, _%_}
 use lib.ListN.{getD}
-use lib.Seq.{sets}
-use Rattle.sizes.specs.Sizes.{rowCells}
 use Rattle.board.specs.declared.Row.{Row}
 use Rattle.board.specs.declared.Board.{Board}
 use Rattle.board.specs.Board.{mark, rowAt}
@@ -48,11 +45,3 @@ fileOf board =
     joined (domainBytes (board .domains)) (board .cells)
     ++ joined (lineBytes (board .lines)) (board .rows)
     ++ trailerBytes (board .cells) (board .rows)
-
--- the first n rows have no more cells than a row may have
-abbrev pub ShortRows : List Row → ℕ → Type 0
-ShortRows lines n = (i : ℕ) → i < n → rowAt lines i .len ≤ rowCells
-
--- with these bytes put at a place, a room that held `before` holds `after`: all else is as it was
-pub record Put (before : List ℕ) (at : ℕ) (bytes : List ℕ) (after : List ℕ) : Type 0 where
-  pub is : after ≡ sets before at bytes

@@ -13,7 +13,8 @@ use Rattle.board.specs.declared.Board.{Board}
 use Rattle.board.specs.Board.{rowAt, SameRow, SameBoard}
 use Rattle.board.specs.Refusals.{boardRefuses}
 use Rattle.board.specs.RefusalLaws.{board-sound}
-use Rattle.writer.specs.Bytes.{joined, pairBytes, rowBytes, domainBytes, lineBytes, fileOf, ShortRows}
+use Rattle.writer.specs.Bytes.{joined, pairBytes, rowBytes, domainBytes, lineBytes, fileOf}
+use Rattle.writer.specs.Steps.{ShortRows}
 
 -- how long what is joined is
 module _ (f : ℕ → List ℕ) where

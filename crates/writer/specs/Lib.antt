@@ -1,4 +1,5 @@
 pub mod Bytes
+pub mod Steps
 pub mod BytesLaws
 pub mod Writing
 pub mod WritingLaws

@@ -12,7 +12,8 @@ ghost use Prim.Native.Nat.{_+_, _*_, _%_, _≤_, _<_};
 ghost use lib.ListN.{length};
 ghost use Rattle.sizes.specs.Sizes.{rowCells, boardCells, boardRows};
 ghost use Rattle.board.specs.Refusals.{boardRefuses};
-ghost use Rattle.writer.specs.Bytes.{joined, twoBytes, fourBytes, headBytes, pairBytes, rowBytes, domainBytes, lineBytes, trailerBytes, fileOf, ShortRows, Put};
+ghost use Rattle.writer.specs.Bytes.{joined, twoBytes, fourBytes, headBytes, pairBytes, rowBytes, domainBytes, lineBytes, trailerBytes, fileOf};
+ghost use Rattle.writer.specs.Steps.{ShortRows, Put};
 ghost use Rattle.writer.specs.Writing.{told, writeSays, writeLeaves};
 
 // The writer's answer: the file's length.

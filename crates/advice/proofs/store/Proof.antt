@@ -5,7 +5,7 @@ use native.Mathlib.Omega.{arith}
 use borrow.Author.Needs.{needs}
 use lib.ListN.{length, getD}
 use Rattle.sizes.specs.Sizes.{boardCells}
-use Rattle.listing.specs.Listing.{Written}
+use Rattle.listing.specs.Written.{Written}
 use Rattle.listing.specs.Writing.{written-none, written-more, written-onto}
 use Rattle.advice.proofs.store.Statement.{statement}
 use Rattle.advice.proofs.store.Tie as tie

@@ -4,7 +4,8 @@ use mathlib.Core.List.{List}
 use Prim.Native.Nat.{ℕ, _≤_, _<_}
 use native.Mathlib.Omega.{arith}
 use lib.ListN.{length, take, length-take}
-use Rattle.sizes.specs.Sizes.{rowCells, highest, SoundRow}
+use Rattle.sizes.specs.Sizes.{rowCells, highest}
+use Rattle.sizes.specs.Sound.{SoundRow}
 use borrow.Author.Needs.{needs}
 use Rattle.agree.proofs.one_row.Statement.{statement}
 use Rattle.agree.proofs.one_row.Tie as tie

@@ -6,7 +6,7 @@ use borrow.Author.Needs.{needs}
 use Rattle.told.specs.Told.{says}
 use Rattle.told.specs.ToldLaws.{neither, says-no, says-yes, leaves-held, leaves-new}
 use Rattle.sizes.specs.Sizes.{values}
-use Rattle.layers.specs.Tables.{Fillable}
+use Rattle.layers.specs.Steps.{Fillable}
 use Rattle.row.specs.Answers.{rowRefuses, placeRefuses}
 use Rattle.row.specs.AnswerLaws.{row-sound, place-sound, same-tables}
 use Rattle.row.specs.CellLaws.{just-filled}

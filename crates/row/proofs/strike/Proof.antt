@@ -3,7 +3,7 @@ use mathlib.Core.Path.{refl, sym, ap, _∙_}
 use borrow.Author.Needs.{needs}
 use Rattle.told.specs.Told.{says}
 use Rattle.told.specs.ToldLaws.{says-no, says-yes, leaves-held, leaves-new}
-use Rattle.layers.specs.Tables.{Fillable}
+use Rattle.layers.specs.Steps.{Fillable}
 use Rattle.row.specs.AnswerLaws.{row-sound, same-tables}
 use Rattle.row.specs.CellLaws.{just-filled}
 use Rattle.row.proofs.strike.Statement.{statement}

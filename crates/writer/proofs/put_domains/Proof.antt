@@ -3,7 +3,8 @@ use mathlib.Core.Path.{_≡_, refl, _∙_}
 use Prim.Native.Nat.{_-_, _≤_}
 use native.Mathlib.Omega.{arith}
 use lib.ListN.{length}
-use Rattle.writer.specs.Bytes.{joined, domainBytes, Put}
+use Rattle.writer.specs.Bytes.{joined, domainBytes}
+use Rattle.writer.specs.Steps.{Put}
 use Rattle.writer.proofs.Runs.{put-start, put-next, put-end}
 use Rattle.writer.specs.BytesLaws.{domains-size}
 use Rattle.writer.proofs.put_domains.Statement.{statement}

@@ -5,7 +5,8 @@ use native.Mathlib.Omega.{arith}
 use lib.ListN.{length}
 use Rattle.sizes.specs.Sizes.{rowCells}
 use Rattle.board.specs.Board.{rowAt}
-use Rattle.writer.specs.Bytes.{joined, lineBytes, Put}
+use Rattle.writer.specs.Bytes.{joined, lineBytes}
+use Rattle.writer.specs.Steps.{Put}
 use Rattle.writer.proofs.Runs.{put-start, put-next, put-end}
 use Rattle.writer.specs.BytesLaws.{size-start, size-rises, lines-next}
 use Rattle.writer.proofs.put_rows.Statement.{statement}

@@ -5,7 +5,7 @@ use native.Mathlib.Omega.{arith}
 use borrow.Author.Needs.{needs}
 use lib.ListN.{length}
 use Rattle.sizes.specs.Sizes.{tableSize}
-use Rattle.listing.specs.Listing.{Written}
+use Rattle.listing.specs.Written.{Written}
 use Rattle.listing.specs.Writing.{written-none, written-more}
 use Rattle.choose.specs.AdviceLaws.{clear-end}
 use Rattle.choose.proofs.inner.clear.Statement.{statement}

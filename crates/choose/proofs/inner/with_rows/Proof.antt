@@ -12,7 +12,7 @@ use Rattle.choosing.specs.Choosing.{Candidate, ofRow}
 use Rattle.choosing.specs.Going.{through}
 use Rattle.choosing.specs.GoingLaws.{through-start, through-turn, through-end}
 use Rattle.beat.specs.Beat.{tiesOf, leaderOf, HasTotal}
-use Rattle.choose.specs.Advice.{SameRest}
+use Rattle.choose.specs.Steps.{SameRest}
 use Rattle.choose.specs.StepLaws.{rows-candidates, row-in}
 use Rattle.choose.proofs.inner.with_rows.Statement.{statement}
 use Rattle.choose.proofs.inner.with_rows.Tie as tie

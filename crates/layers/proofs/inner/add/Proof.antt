@@ -5,7 +5,7 @@ use native.Mathlib.Omega.{arith}
 use borrow.Author.Needs.{needs}
 use native.Mathlib.Nat.{le-refl}
 use lib.ListN.{length, getD}
-use Rattle.listing.specs.Listing.{Written}
+use Rattle.listing.specs.Written.{Written}
 use Rattle.listing.specs.Writing.{written-none, written-more}
 use Rattle.layers.proofs.inner.add.Statement.{statement}
 use Rattle.layers.proofs.inner.add.Tie as tie

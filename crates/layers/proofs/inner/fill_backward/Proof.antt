@@ -5,7 +5,7 @@ use borrow.Author.Needs.{needs}
 use native.Mathlib.Omega.{arith}
 use lib.ListN.{length, getD}
 use Rattle.sizes.specs.Sizes.{sums}
-use Rattle.listing.specs.Listing.{Written}
+use Rattle.listing.specs.Written.{Written}
 use Rattle.listing.specs.Writing.{written-none, written-down}
 use Rattle.counting.specs.Counting.{backward}
 use Rattle.counting.specs.Tables.{backward-end}

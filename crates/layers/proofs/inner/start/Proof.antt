@@ -7,7 +7,7 @@ use lib.ListN.{length}
 use Rattle.told.specs.Told.{when}
 use Rattle.counting.specs.Counting.{within}
 use Rattle.sizes.specs.Sizes.{sums}
-use Rattle.listing.specs.Listing.{Written}
+use Rattle.listing.specs.Written.{Written}
 use Rattle.listing.specs.Writing.{written-none, written-more}
 use Rattle.layers.proofs.inner.start.Statement.{statement}
 use Rattle.layers.proofs.inner.start.Tie as tie

@@ -5,7 +5,7 @@ use native.Mathlib.Omega.{arith}
 use borrow.Author.Needs.{needs}
 use lib.ListN.{length, getD}
 use Rattle.sizes.specs.Sizes.{sums}
-use Rattle.listing.specs.Listing.{Written}
+use Rattle.listing.specs.Written.{Written}
 use Rattle.listing.specs.Writing.{written-none, written-more}
 use Rattle.layers.proofs.inner.store.Statement.{statement}
 use Rattle.layers.proofs.inner.store.Tie as tie
