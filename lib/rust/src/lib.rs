@@ -22,6 +22,11 @@
 #[cfg(not(all(target_arch = "x86_64", target_pointer_width = "64")))]
 compile_error!("the static library is for x86-64");
 
+/// The page's code is a test.
+#[cfg(doctest)]
+#[doc = include_str!("../../../docs/LIBRARY.md")]
+mod page {}
+
 mod board;
 #[allow(missing_docs, unsafe_code)]
 mod raw;
