@@ -13,7 +13,7 @@ pub struct Tally {
 
 impl Tally {
     // After a visit that struck n values.
-    pub fn after_row(mut self, n: usize) -> Self
+    fn after_row(mut self, n: usize) -> Self
         requires { ⌜ self .struck + n ≤ boardValues ⌝ }
         ensures { λ r. ⌜ (r .passes ≡ self .passes) × (r .struck ≡ self .struck + n) ⌝ }
     {
@@ -22,7 +22,7 @@ impl Tally {
     }
 
     // After a pass.
-    pub fn after_pass(mut self) -> Self
+    fn after_pass(mut self) -> Self
         requires { ⌜ self .passes ≤ boardValues ⌝ }
         ensures { λ r. ⌜ (r .passes ≡ self .passes + 1) × (r .struck ≡ self .struck) ⌝ }
     {
