@@ -1,14 +1,14 @@
 -- A board that is not refused is sound, and the same rows and the same boards are refused the same. Assumes nothing.
 use mathlib.Core.Path.{_≡_}
 use mathlib.Core.List.{List}
-use Prim.Native.Nat.{ℕ, _≤_, _<_}
+use Prim.Native.Nat.{ℕ, _<_}
 use native.Mathlib.Omega.{arith}
 use lib.ListN.{getD}
 use lib.Dec.{eqb, ltb, leb}
 use borrow.Author.Tests.{eqb-false, ltb-false, leb-false}
 use Rattle.told.specs.Told.{when}
 use Rattle.told.specs.ToldLaws.{neither, not-held, firsts-each, firsts-same}
-use Rattle.sizes.specs.Sizes.{rowCells, highest, boardCells, boardRows, lengthRefuses, limitsRefuse}
+use Rattle.sizes.specs.Sizes.{boardCells, boardRows, lengthRefuses, limitsRefuse}
 use Rattle.sizes.specs.SizeLaws.{length-sound, limits-sound}
 use Rattle.board.specs.declared.Row.{Row}
 use Rattle.board.specs.declared.Board.{Board}

@@ -31,9 +31,8 @@ use Rattle.choosing.specs.Choosing as choosing
 use Rattle.choosing.specs.Going.{Leader, through}
 use Rattle.choosing.specs.GoingLaws.{through-none, through-end}
 use Rattle.choosing.specs.CandidateLaws.{ofValue, place-several, place-few}
-use Rattle.choose.specs.Steps.{SameRest}
+use Rattle.choose.specs.Steps.{SameRest, Ready}
 use Rattle.choose.specs.AdviceLaws.{filled-kept}
-use Rattle.choose.specs.Steps.{Ready}
 
 -- ---- how many values below n a domain lists, and how many in all
 

@@ -28,8 +28,7 @@ ghost use Rattle.beat.specs.Beat.{tiesOf, leaderOf, HasTotal};
 ghost use Rattle.beat.specs.declared.Candidate.{Candidate};
 ghost use Rattle.beat.specs.declared.Leader.the-variants.{Leads};
 ghost use Rattle.choose.specs.Advice.{told, cleared};
-ghost use Rattle.choose.specs.Steps.{SameRest};
-ghost use Rattle.choose.specs.Steps.{Choosable, Ready};
+ghost use Rattle.choose.specs.Steps.{SameRest, Choosable, Ready};
 
 // Chooses a move, and leaves zeros in the first 5,632 entries of the tables.
 pub fn choose(

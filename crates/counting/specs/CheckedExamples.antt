@@ -1,7 +1,7 @@
 -- Document 01's examples P1 to P10: one table, and the one statement that the definitions give each its number. Assumes nothing.
-use mathlib.Core.Bool.{Bool, true, false, _&&_}
+use mathlib.Core.Bool.{Bool, true, _&&_}
 use mathlib.Core.List.{List, [], _∷_, flatMap}
-use Prim.Native.Nat.{ℕ, zero, suc}
+use Prim.Native.Nat.{ℕ}
 use lib.Dec.{T, eqb}
 use Rattle.listing.specs.Listing.{howMany, below}
 use Rattle.counting.specs.Counting.{listed, fillings, weigh, total, count}

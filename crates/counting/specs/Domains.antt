@@ -1,7 +1,6 @@
 -- Domains as numbers: their bits are what they list, and sums over listed values. Assumes nothing.
 use mathlib.Core.Path.{_≡_, refl, sym, ap, ap₂, _∙_}
 use mathlib.Core.Bool.{Bool, true, false, not, _&&_}
-use mathlib.Core.List.{List, [], _∷_}
 use mathlib.Core.Logic.{_≢_}
 use Prim.Native.Nat.{ℕ, zero, suc, _+_, _-_, _*_, _/_, _%_, _^_, _≤_, _<_}
 use native.Mathlib.Nat.{zero-div, add-mul-div-right, le-refl, add-zero, add-comm, pow-succ', zero-mul, mod-eq-of-lt}
@@ -13,7 +12,7 @@ use lib.Pow.{pow-pos, pow-add, mod-pow-add}
 use lib.Arith.{digits-div}
 use Rattle.told.specs.Told.{when}
 use Rattle.sizes.specs.Sizes.{values}
-use Rattle.listing.specs.Listing.{keep, only, howMany, below, sumOver}
+use Rattle.listing.specs.Listing.{only, howMany, below, sumOver}
 use Rattle.counting.specs.Counting.{lists, listed, domainOf}
 use Rattle.listing.specs.Sums.{when-both, when-swap, when-cong, when-some, when-grows, sum-only, sum-below, sum-nil, sum-cong, sum-plus, sum-cong-below, sum-some, sum-part, sum-most, sum-tight, pick, howMany-sum, length-only, length-below}
 

@@ -3,7 +3,7 @@
 use mathlib.Core.Path.{_≡_, refl, sym, ap, ap₂, _∙_}
 use mathlib.Core.Bool.{Bool, true, false, _&&_}
 use mathlib.Core.List.{List, [], _∷_}
-use Prim.Native.Nat.{ℕ, zero, suc, _+_, _≤_, _<_}
+use Prim.Native.Nat.{ℕ, zero, suc, _≤_, _<_}
 use native.Mathlib.Nat.{le-refl, le-trans, le-of-eq}
 use native.Mathlib.Omega.{arith}
 use borrow.Author.Tests.{leb-true, le-leb, eqb-true, eq-eqb}
@@ -12,7 +12,7 @@ use lib.ListN.{length, getD}
 use Rattle.told.specs.Told.{when}
 use Rattle.sizes.specs.Sizes.{values}
 use Rattle.listing.specs.Listing.{howMany}
-use Rattle.counting.specs.Counting.{lists, listed, fillings, weigh, within, good, total, count, Filling, GoodFilling, NoNewValue}
+use Rattle.counting.specs.Counting.{lists, listed, fillings, weigh, good, total, count, Filling, GoodFilling, NoNewValue}
 use Rattle.listing.specs.Sums.{never, and-left, and-right, when-both, when-some, when-grows, sum-cong, sum-when, howMany-sum}
 use Rattle.counting.specs.Domains.{_⇒_, pick-listed, listed-some, listed-one}
 use Rattle.counting.specs.Over.{overFillings, over-nil, over-cons, over-grows, filling-at}

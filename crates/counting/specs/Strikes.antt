@@ -1,6 +1,6 @@
 -- What striking a row leaves: a value is kept exactly when its count is above 0, and what is struck and what is left make up what was listed.
 -- Assumes nothing.
-use mathlib.Core.Path.{_≡_, refl, sym, ap, ap₂, _∙_}
+use mathlib.Core.Path.{_≡_, refl, sym, ap, _∙_}
 use mathlib.Core.Bool.{Bool, true, false, not, _&&_}
 use mathlib.Core.List.{List}
 use Prim.Native.Nat.{ℕ, _+_, _^_, _≤_, _<_}
@@ -9,7 +9,7 @@ use borrow.Author.Tests.{ltb-true, ltb-false, eqb-false, ne-eqb}
 use lib.Dec.{eqb, ltb, lit<}
 use lib.ListN.{length, getD, List·getD-eq-default}
 use Rattle.sizes.specs.Sizes.{values}
-use Rattle.listing.specs.Listing.{only, sumOver, below, byPlace}
+use Rattle.listing.specs.Listing.{sumOver, below}
 use Rattle.listing.specs.Sums.{never, and-left, and-right, sum-plus, sum-cong-below}
 use Rattle.listing.specs.Places.{place-length, place-at, place-only, sum-places}
 use Rattle.counting.specs.Counting.{lists, listed, domainOf, size, count, kept, gone, strike, struck, NoNewValue}

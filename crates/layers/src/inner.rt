@@ -11,8 +11,7 @@ ghost use Rattle.listing.specs.Listing.{onto};
 ghost use Rattle.listing.specs.Written.{Written};
 ghost use Rattle.counting.specs.Counting.{lists, within};
 ghost use Rattle.layers.specs.Tables.{forwardTable, backwardTable};
-ghost use Rattle.layers.specs.Steps.{Fillable};
-ghost use Rattle.layers.specs.Steps.{moved, step};
+ghost use Rattle.layers.specs.Steps.{Fillable, moved, step};
 
 // Fills both tables of a row.
 pub fn fill(

@@ -4,7 +4,7 @@ use Prim.Native.Nat.{ℕ, suc, _+_, _*_, _≤_, _<_}
 use native.Mathlib.Omega.{arith}
 use lib.Dec.{eqb, ltb}
 use borrow.Author.Tests.{eqb-false, ltb-false}
-use Rattle.told.specs.Told.{when, first}
+use Rattle.told.specs.Told.{when}
 use Rattle.told.specs.ToldLaws.{neither, not-held}
 use Rattle.sizes.specs.Sizes.{rowCells, highest, sums, tableSize, boardCells, boardRows, fileSize, lengthRefuses, limitsRefuse}
 

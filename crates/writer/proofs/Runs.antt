@@ -6,10 +6,9 @@ use native.Mathlib.Nat.{add-zero}
 use native.Mathlib.Numerals.{add-one}
 use native.Mathlib.Omega.{arith}
 use lib.ListN.{length, set}
-use lib.Seq.{sets}
+use lib.Seq.{sets, sets-eq}
 use Rattle.writer.specs.Bytes.{joined}
 use Rattle.writer.specs.Steps.{Put}
-use lib.Seq.{sets-eq}
 use Rattle.listing.specs.Listing.{onto}
 
 -- a run of bytes put where the run before it ends

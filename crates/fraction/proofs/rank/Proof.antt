@@ -1,6 +1,5 @@
 -- `rank` meets its contract: it says the refusal's number, or what the inner call says of totals above 0. Assumes nothing.
 use borrow.Author.Needs.{needs}
-use native.Mathlib.Omega.{arith}
 use Rattle.told.specs.ToldLaws.{says-no, says-yes}
 use Rattle.fraction.specs.RankLaws.{totals}
 use Rattle.fraction.proofs.rank.Statement.{statement}
