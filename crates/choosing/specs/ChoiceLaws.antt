@@ -64,7 +64,7 @@ module _ (d : List ℕ) (i : ℕ) where
 
 -- ---- a domain that is not empty lists a value, and one that lists two lists one
 
-lists-one : (e : ℕ) → e < 2 ^ values → (e ≡ 0 → ⊥) → 1 ≤ length (listed e)
+pub lists-one : (e : ℕ) → e < 2 ^ values → (e ≡ 0 → ⊥) → 1 ≤ length (listed e)
 lists-one e h z = go (ltb 0 (length (listed e))) refl
   where
     go : (t : Bool) → ltb 0 (length (listed e)) ≡ t → 1 ≤ length (listed e)

@@ -30,6 +30,10 @@ boardCells = 64
 abbrev pub boardRows : ℕ
 boardRows = 32
 
+-- domains that the stack room of a search holds: one for each cell, once for each level
+abbrev pub stackSize : ℕ
+stackSize = 4096
+
 -- the longest board file
 abbrev pub fileSize : ℕ
 fileSize = 1062

@@ -16,6 +16,8 @@ pub const BOARD_CELLS: usize = 64;
 
 pub const BOARD_ROWS: usize = 32;
 
+pub const STACK: usize = 4096;
+
 pub const FILE: usize = 1062;
 
 // 1, or 0 where a row may have this many cells.

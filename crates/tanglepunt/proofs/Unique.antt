@@ -4,6 +4,7 @@ use denote.Ref.{now}
 use Rattle.told.specs.Alone.{NoSecondAnswer}
 use Rattle.row.specs.Answers.{tables, struckRooms}
 use Rattle.advice.specs.Advising.{rooms}
+use Rattle.search.specs.Finishing.{lent}
 use Rattle.tanglepunt.proofs.tanglepunt_rank.Reads as rank
 use Rattle.tanglepunt.proofs.tanglepunt_rank.Kinds as rank-kinds
 use Rattle.tanglepunt.proofs.tanglepunt_total.Reads as total
@@ -24,6 +25,8 @@ use Rattle.tanglepunt.proofs.tanglepunt_write.Reads as write
 use Rattle.tanglepunt.proofs.tanglepunt_write.Kinds as write-kinds
 use Rattle.tanglepunt.proofs.tanglepunt_advise.Reads as advise
 use Rattle.tanglepunt.proofs.tanglepunt_advise.Kinds as advise-kinds
+use Rattle.tanglepunt.proofs.tanglepunt_search.Reads as search-call
+use Rattle.tanglepunt.proofs.tanglepunt_search.Kinds as search-kinds
 
 -- calls that are lent no room
 pub rank-alone : NoSecondAnswer 0 rank-kinds.ps rank-kinds.r rank.Post (λ κs e. tt {0})
@@ -56,3 +59,7 @@ write-alone κs a x y e f p q = (p .0 ∙ sym (q .0), p .1 ∙ sym (q .1))
 
 pub advise-alone : NoSecondAnswer 4 advise-kinds.ps advise-kinds.r advise.Post (λ κs e. rooms (now (e .1 .0)) (now (e .1 .1 .0)) (now (e .1 .1 .1 .0)))
 advise-alone κs a x y e f p q = (p .0 ∙ sym (q .0), p .1 ∙ sym (q .1))
+
+pub search-alone : NoSecondAnswer 6 search-kinds.ps search-kinds.r search-call.Post
+    (λ κs e. lent (now (e .1 .0)) (now (e .1 .1 .0)) (now (e .1 .1 .1 .0)) (now (e .1 .1 .1 .1 .0)) (now (e .1 .1 .1 .1 .1 .0)))
+search-alone κs a x y e f p q = (p .0 ∙ sym (q .0), p .1 ∙ sym (q .1))

@@ -18,6 +18,8 @@ use row::Answer;
 use row::count;
 use row::strike;
 use row::total;
+use search::Answer as Searched;
+use search::search;
 use settle::Tally;
 use writer::Writing;
 use writer::write;
@@ -29,7 +31,8 @@ ghost use Rattle.reader.specs.Reading.{readSays, refusalOf, toldCounts, countsS
 ghost use Rattle.writer.specs.Writing.{told as writeTold, writeSays, writeLeaves};
 ghost use Rattle.choose.specs.Advice.{told as choiceTold};
 ghost use Rattle.advice.specs.Advising.{told as adviseTold, adviseSays, rooms, adviseLeaves};
-ghost use Rattle.tanglepunt.specs.Flat.{numberOf, orderOf, countsOf, boardWith, readingOf, adviceOf, chosenOf, plainOf};
+ghost use Rattle.search.specs.Finishing.{told as searchTold, searchSays, lent, searchLeaves};
+ghost use Rattle.tanglepunt.specs.Flat.{endingOf, numberOf, orderOf, countsOf, boardWith, readingOf, adviceOf, chosenOf, plainOf};
 
 // A number: a total, a count, how many values were struck, or the length of a file.
 #[repr(C)]
@@ -58,6 +61,13 @@ pub struct Counts {
 pub struct Reading {
     pub refused: u8,
     pub board: Board,
+}
+
+// How a search ended: ending is 0 for Solved, 1 for None, 2 for Spent.
+#[repr(C)]
+pub struct Ending {
+    pub refused: u8,
+    pub ending: u8,
 }
 
 // What is advised: kind is 0 for Dead, 1 for Settled, 2 for Advise.
@@ -189,7 +199,43 @@ pub extern "C" fn tanglepunt_advise(
     advice_of(advise(file, room, forward, backward))
 }
 
+// Searches the board of a file for a filling, with so many choices allowed; choices then holds those that remain.
+#[no_mangle]
+pub extern "C" fn tanglepunt_search(
+    file: &[u8],
+    choices: &mut u64,
+    room: &mut [u32],
+    stack: &mut [u32],
+    forward: &mut [u64],
+    backward: &mut [u64],
+) -> Ending
+    ensures { λ r. ⌜ r ≡ endingOf (searchSays (now (file .entry)) (now (choices .entry)) (now (room .entry)) (now (stack .entry)) (now (forward .entry)) (now (backward .entry))) ⌝ }
+    ensures { λ r. ⌜ lent (now (choices .exit)) (now (room .exit)) (now (stack .exit)) (now (forward .exit)) (now (backward .exit)) ≡ searchLeaves (now (file .entry)) (now (choices .entry)) (now (room .entry)) (now (stack .entry)) (now (forward .entry)) (now (backward .entry)) ⌝ }
+{
+    ending_of(search(file, choices, room, stack, forward, backward))
+}
+
 // Each of these turns an answer into its struct.
+fn ending_of(answer: Searched) -> Ending
+    ensures { λ r. ⌜ r ≡ endingOf (searchTold answer) ⌝ }
+{
+    match answer {
+        Searched::Solved => Ending {
+            refused: 0,
+            ending: 0,
+        },
+        Searched::None => Ending {
+            refused: 0,
+            ending: 1,
+        },
+        Searched::Spent => Ending {
+            refused: 0,
+            ending: 2,
+        },
+        Searched::Refused(refused) => Ending { refused, ending: 0 },
+    }
+}
+
 fn order_of(ranking: Ranking) -> Order
     ensures { λ r. ⌜ r ≡ orderOf (rankTold ranking) ⌝ }
 {

@@ -58,7 +58,9 @@ returns-2 c =
     (says-no _ _ all _ (z .1), leaves-held _ _ all _ _ _ (z .1) refl)
 
 settled-requires : tie.Need-settled-requires
-settled-requires c κs = (sound (c .before .before), long (c .before .before .before .before .before) .2)
+settled-requires c κs =
+    let s = sound (c .before .before) in
+    (s, omega (arith, s .sizes .cells-most, long (c .before .before .before .before .before) .2))
 
 chosen-requires : tie.Need-chosen-requires
 chosen-requires c κs =

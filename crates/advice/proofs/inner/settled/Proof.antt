@@ -1,11 +1,11 @@
--- `settled` meets its contract: the domains stored are those that are settled. Assumes nothing.
+-- `inner::settled` meets its contract: the domains stored are those that are settled. Assumes nothing.
 use mathlib.Core.Path.{ap, _∙_}
 use native.Mathlib.Omega.{arith}
 use borrow.Author.Needs.{needs}
 use Rattle.settle.specs.Settle.{tallyOf}
 use Rattle.advice.specs.StepLaws.{settled-onto, settled-of}
-use Rattle.advice.proofs.settled.Statement.{statement}
-use Rattle.advice.proofs.settled.Tie as tie
+use Rattle.advice.proofs.inner.settled.Statement.{statement}
+use Rattle.advice.proofs.inner.settled.Tie as tie
 
 store-requires : tie.Need-store-requires
 store-requires c κs = search needs
@@ -13,7 +13,7 @@ store-requires c κs = search needs
 settle-requires : tie.Need-settle-requires
 settle-requires c κs =
     let s = c .before .before .before .before .before .before in
-    (s .pre .0, omega (arith, s .pre .0 .sizes .cells-most))
+    (s .pre .0, omega arith)
 
 same-length : tie.Need-same-length
 same-length c = search needs

@@ -1,7 +1,7 @@
--- `rooms_refuse` meets its contract: each return is at one test and past those before it. Assumes nothing.
+-- `inner::rooms_refuse` meets its contract: each return is at one test and past those before it. Assumes nothing.
 use Rattle.told.specs.ToldLaws.{refusals}
-use Rattle.advice.proofs.rooms_refuse.Statement.{statement}
-use Rattle.advice.proofs.rooms_refuse.Tie as tie
+use Rattle.advice.proofs.inner.rooms_refuse.Statement.{statement}
+use Rattle.advice.proofs.inner.rooms_refuse.Tie as tie
 
 returns : tie.Need-returns
 returns c = search refusals depth 9

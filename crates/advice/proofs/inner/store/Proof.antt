@@ -1,4 +1,4 @@
--- `store` meets its contract: the loop has stored the domains of the cells passed. Assumes nothing.
+-- `inner::store` meets its contract: the loop has stored the domains of the cells passed. Assumes nothing.
 use mathlib.Core.Path.{_≡_, refl}
 use Prim.Native.Nat.{_-_, _≤_, _<_}
 use native.Mathlib.Omega.{arith}
@@ -7,8 +7,8 @@ use lib.ListN.{length, getD}
 use Rattle.sizes.specs.Sizes.{boardCells}
 use Rattle.listing.specs.Written.{Written}
 use Rattle.listing.specs.Writing.{written-none, written-more, written-onto}
-use Rattle.advice.proofs.store.Statement.{statement}
-use Rattle.advice.proofs.store.Tie as tie
+use Rattle.advice.proofs.inner.store.Statement.{statement}
+use Rattle.advice.proofs.inner.store.Tie as tie
 
 abbrev Inv-loop : tie.InvT-loop
 Inv-loop room₀ cells domains i₀ room i = (i ≤ cells) × (length room ≡ length room₀) × Written (λ k. getD domains k 0) room₀ room 0 i
@@ -33,7 +33,7 @@ mul-room-2 : tie.Need-mul-room-2 Inv-loop μ-loop
 mul-room-2 c = search needs
 
 slice-write-room : tie.Need-slice-write-room Inv-loop μ-loop
-slice-write-room c = omega (arith, inside (c .before) (omega arith))
+slice-write-room c = omega arith
 
 add-i : tie.Need-add-i Inv-loop μ-loop
 add-i c = search needs
@@ -44,7 +44,7 @@ loop-less c = search needs
 loop-again : tie.Need-loop-again Inv-loop μ-loop
 loop-again c =
     let l = c .before .loop in
-    (omega arith, search needs, written-more _ _ (l .room) 0 (l .i) _ (omega arith) (omega (arith, inside (c .before) (omega arith))) refl (l .inv .2))
+    (omega arith, search needs, written-more _ _ (l .room) 0 (l .i) _ (omega arith) (omega arith) refl (l .inv .2))
 
 same-length : tie.Need-same-length Inv-loop μ-loop
 same-length c = search needs
@@ -54,7 +54,7 @@ returns c =
     let l = c .before .loop in
     let s = c .before .before .before in
     let all : l .i ≡ s .args .board .cells = omega arith in
-    written-onto _ _ (l .room) (s .args .board .cells) (omega (arith, s .pre .0 .sizes .cells-most)) (l .inv .1) (rw all at (l .inv .2))
+    written-onto _ _ (l .room) (s .args .board .cells) (s .pre .1) (l .inv .1) (rw all at (l .inv .2))
 
 pub store-spec : {M : Type 1} → statement M
 store-spec =

@@ -1,0 +1,1 @@
+// What finishing a board by search means, and its laws: see specs/. No code.
