@@ -12,6 +12,7 @@ use Rattle.sizes.specs.Sizes.{values, rowCells}
 use Rattle.listing.specs.Listing.{keep, below}
 use Rattle.listing.specs.Members.{in-below, below-small, only-in, in-only, flat-in, in-flat, map-only, at-in}
 use Rattle.counting.specs.Counting.{lists, listed}
+use Rattle.counting.specs.Domains.{listed-in, in-listed}
 use Rattle.counting.specs.Counts.{count-total}
 use Rattle.counting.specs.Tables.{total-le}
 use Rattle.settling.specs.Settling.{Row, _∈_, Accepted, gather, rowCount, Consistent}
@@ -24,14 +25,6 @@ use Rattle.choosing.specs.Going.{Live, Apart}
 
 abbrev several : ℕ → Bool
 several e = ltb 1 (length (listed e))
-
-pub listed-in : (e v : ℕ) → List·Memᴰ v (listed e) → (v < values) × (lists e v ≡ true)
-unfolding listed
-listed-in e v m = let r = only-in (lists e) (below values) v m in (below-small values v (r .1), r .0)
-
-pub in-listed : (e v : ℕ) → v < values → lists e v ≡ true → List·Memᴰ v (listed e)
-unfolding listed
-in-listed e v l q = in-only (lists e) (below values) v q (in-below values v l)
 
 choices-in : (e v : ℕ) → List·Memᴰ v (choices e) → (v < values) × (lists e v ≡ true) × (2 ≤ length (listed e))
 unfolding choices

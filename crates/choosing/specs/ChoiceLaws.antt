@@ -14,7 +14,7 @@ use Rattle.sizes.specs.Sizes.{values, rowCells}
 use Rattle.listing.specs.Sums.{never}
 use Rattle.listing.specs.Members.{at-in, in-at}
 use Rattle.counting.specs.Counting.{lists, listed}
-use Rattle.counting.specs.Domains.{empty-only}
+use Rattle.counting.specs.Domains.{listed-in, in-listed, lists-one}
 use Rattle.settling.specs.Settling.{Row, _∈_, Accepted, settle, Consistent}
 use Rattle.settling.specs.Demand3.{largest-family, left-accepted}
 use Rattle.fraction.specs.Share.{shareOf}
@@ -22,7 +22,7 @@ use Rattle.choosing.specs.Choosing.{Candidate, Ties, noRow, rowAt, domai
 use Rattle.choosing.specs.Promised.{SomeEmpty, NoneEmpty, Single, Open, Best, Promised}
 use Rattle.choosing.specs.Going.{Leader, nobody, leads, through, outcome}
 use Rattle.choosing.specs.GoingLaws.{Finds, finds, best-alone, through-advises}
-use Rattle.choosing.specs.CandidateLaws.{in-listed, listed-in, candidate-there, apart, is-open, live, numbers-fit}
+use Rattle.choosing.specs.CandidateLaws.{candidate-there, apart, is-open, live, numbers-fit}
 
 -- ---- empty domains
 
@@ -62,16 +62,7 @@ module _ (d : List ℕ) (i : ℕ) where
   unfolding someEmpty
   empty-end l h q = let e : i ≡ length d = omega arith in sym (q ∙ ap (λ (k : ℕ). someEmpty (drop k d)) e ∙ ap someEmpty (drop-length d))
 
--- ---- a domain that is not empty lists a value, and one that lists two lists one
-
-pub lists-one : (e : ℕ) → e < 2 ^ values → (e ≡ 0 → ⊥) → 1 ≤ length (listed e)
-lists-one e h z = go (ltb 0 (length (listed e))) refl
-  where
-    go : (t : Bool) → ltb 0 (length (listed e)) ≡ t → 1 ≤ length (listed e)
-    go true q = ltb-true 0 (length (listed e)) q
-    go false q =
-        let none : length (listed e) ≤ 0 = ltb-false 0 (length (listed e)) q in
-        absurd (z (empty-only e h (λ v l s. (let at = in-at 0 (listed e) v (in-listed e v l s) in omega (arith, at .1)))))
+-- ---- a domain that lists two values lists one
 
 one-listed : (e : ℕ) → 1 ≤ length (listed e) → (v : ℕ) × (v < values) × (lists e v ≡ true)
 one-listed e h = let v = getD (listed e) 0 0 in let m = listed-in e v (at-in 0 (listed e) 0 h) in (v, m .0, m .1)

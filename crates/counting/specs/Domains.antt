@@ -2,11 +2,12 @@
 use mathlib.Core.Path.{_≡_, refl, sym, ap, ap₂, _∙_}
 use mathlib.Core.Bool.{Bool, true, false, not, _&&_}
 use mathlib.Core.Logic.{_≢_}
+use mathlib.Core.List.{List·Memᴰ}
 use Prim.Native.Nat.{ℕ, zero, suc, _+_, _-_, _*_, _/_, _%_, _^_, _≤_, _<_}
 use native.Mathlib.Nat.{zero-div, add-mul-div-right, le-refl, add-zero, add-comm, pow-succ', zero-mul, mod-eq-of-lt}
 use native.Mathlib.Omega.{arith}
-use borrow.Author.Tests.{eqb-true, eqb-false}
-use lib.Dec.{eqb, lit<}
+use borrow.Author.Tests.{eqb-true, eqb-false, ltb-true, ltb-false}
+use lib.Dec.{eqb, ltb, lit<}
 use lib.ListN.{length}
 use lib.Pow.{pow-pos, pow-add, mod-pow-add}
 use lib.Arith.{digits-div}
@@ -14,6 +15,7 @@ use Rattle.told.specs.Told.{when}
 use Rattle.sizes.specs.Sizes.{values}
 use Rattle.listing.specs.Listing.{only, howMany, below, sumOver}
 use Rattle.counting.specs.Counting.{lists, listed, domainOf}
+use Rattle.listing.specs.Members.{in-below, below-small, only-in, in-only, in-at}
 use Rattle.listing.specs.Sums.{when-both, when-swap, when-cong, when-some, when-grows, sum-only, sum-below, sum-nil, sum-cong, sum-plus, sum-cong-below, sum-some, sum-part, sum-most, sum-tight, pick, howMany-sum, length-only, length-below}
 
 -- the one test holds where the other does
@@ -25,6 +27,16 @@ pub both : (a b : Bool) → a ⇒ b → b ⇒ a → a ≡ b
 both true b f g = sym (f refl)
 both false true f g = g refl
 both false false f g = refl
+
+-- ---- the listed values
+
+pub listed-in : (d v : ℕ) → List·Memᴰ v (listed d) → (v < values) × (lists d v ≡ true)
+unfolding listed
+listed-in d v m = let r = only-in (lists d) (below values) v m in (below-small values v (r .1), r .0)
+
+pub in-listed : (d v : ℕ) → v < values → lists d v ≡ true → List·Memᴰ v (listed d)
+unfolding listed
+in-listed d v l q = in-only (lists d) (below values) v q (in-below values v l)
 
 -- ---- sums over listed values
 
@@ -174,6 +186,16 @@ empty-only d h n = same-domain d 0 h (pow-pos values) (λ v l. none (lists d v) 
     none : (t : Bool) → (t ≡ true → ⊥) → t ≡ false
     none true k = absurd (k refl)
     none false k = refl
+
+-- a domain that is not empty lists a value
+pub lists-one : (d : ℕ) → d < 2 ^ values → d ≢ 0 → 1 ≤ length (listed d)
+lists-one d h z = go (ltb 0 (length (listed d))) refl
+  where
+    go : (t : Bool) → ltb 0 (length (listed d)) ≡ t → 1 ≤ length (listed d)
+    go true q = ltb-true 0 (length (listed d)) q
+    go false q =
+        let none : length (listed d) ≤ 0 = ltb-false 0 (length (listed d)) q in
+        absurd (z (empty-only d h (λ v l s. (let at = in-at 0 (listed d) v (in-listed d v l s) in omega (arith, at .1)))))
 
 -- ---- the domain of the listed values that pass a test
 

@@ -1,6 +1,7 @@
 pub mod Counting
 pub mod CheckedExamples
 pub mod Domains
+pub mod Cuts
 pub mod Over
 pub mod Tables
 pub mod Counts

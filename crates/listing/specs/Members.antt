@@ -12,6 +12,11 @@ use borrow.Author.Tests.{ltb-true, ltb-false}
 use Rattle.listing.specs.Listing.{keep, only, howMany, below}
 use Rattle.listing.specs.Sums.{never}
 
+-- a list with no members is empty
+pub no-members : {A : Type 0} (xs : List A) → ((x : A) → List·Memᴰ x xs → ⊥) → xs ≡ []
+no-members [] h = refl
+no-members (x ∷ xs) h = absurd (h x (List·Memᴰ·head refl))
+
 -- ---- 0, .., n - 1
 
 pub in-below : (n k : ℕ) → k < n → List·Memᴰ k (below n)
@@ -48,6 +53,14 @@ module _ {A : Type 0} (p : A → Bool) where
       go : (List·Memᴰ x xs → List·Memᴰ x (only p xs)) → (t : Bool) → p y ≡ t → List·Memᴰ x (keep t y (only p xs))
       go r true q = ⊎-elim (λ z. List·Memᴰ·head z) (λ k. List·Memᴰ·tail (r k)) (List·Memᴰ·cases-cons m)
       go r false q = ⊎-elim (λ z. absurd (never (sym q ∙ ap p (sym z) ∙ e))) r (List·Memᴰ·cases-cons m)
+
+  pub only-append : (xs ys : List A) → only p (xs ++ ys) ≡ only p xs ++ only p ys
+  only-append [] ys = refl
+  only-append (x ∷ xs) ys = go (p x) (only-append xs ys)
+    where
+      go : (t : Bool) → only p (xs ++ ys) ≡ only p xs ++ only p ys → keep t x (only p (xs ++ ys)) ≡ keep t x (only p xs) ++ only p ys
+      go true e = ap (λ (l : List A). x ∷ l) e
+      go false e = e
 
   -- none passes exactly where each fails
   pub none-pass : (xs : List A) → ((x : A) → List·Memᴰ x xs → p x ≡ false) → howMany p xs ≡ 0

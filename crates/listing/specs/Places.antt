@@ -1,15 +1,15 @@
 -- Laws of lists by their places, and of rooms written at the front. Assumes nothing.
 use mathlib.Core.Path.{_≡_, refl, sym, ap, ap₂, _∙_}
 use mathlib.Core.Bool.{Bool, true, false}
-use mathlib.Core.List.{List, [], _∷_, _++_, map, List·Memᴰ, List·Memᴰ·not-nil, List·Memᴰ·append-cases, List·Memᴰ·eq-of-singleton}
+use mathlib.Core.List.{List, [], _∷_, _++_, append-nil, map, List·Memᴰ, List·Memᴰ·not-nil, List·Memᴰ·append-cases, List·Memᴰ·eq-of-singleton}
 use mathlib.Core.Logic.{_≢_, ⊎-elim}
 use Prim.Native.Nat.{ℕ, zero, suc, _+_, _-_, _≤_, _<_}
-use native.Mathlib.Nat.{le-refl}
+use native.Mathlib.Nat.{le-refl, le-of-suc-le-suc}
 use native.Mathlib.Omega.{arith}
 use borrow.Author.Tests.{eqb-true, eqb-false, ltb-true, ltb-false}
 use lib.Dec.{eqb, ltb}
 use lib.ListN.{length, getD, take, drop, length-append, length-drop, List·getD-append}
-use lib.Seq.{length-take-le, getD-take, getD-at, getD-append-add, getD-drop, drop-append-seam, take-append-seam, take-suc, take-length, ext-getD}
+use lib.Seq.{length-take-le, getD-take, getD-at, getD-append-add, getD-drop, drop-append-seam, take-append-seam, take-suc, take-length, drop-length, ext-getD}
 use Rattle.listing.specs.Listing.{below, byPlace, onto, sumOver}
 use Rattle.listing.specs.Sums.{sum-below, sum-nil, sum-append}
 
@@ -65,6 +65,12 @@ place-member g (suc n) x m =
 pub place-take : {A : Type 0} (z : A) (xs : List A) (n : ℕ) → n ≤ length xs → take n xs ≡ byPlace (λ i. getD xs i z) n
 place-take z xs n l = place-only _ z (take n xs) n (length-take-le n xs l) (λ i k. getD-take n xs i z k)
 
+-- what stands at a place is turned, as all others are
+pub map-at : {A B : Type 0} (g : A → B) (y : A) (z : B) (xs : List A) (i : ℕ) → i < length xs → getD (map g xs) i z ≡ g (getD xs i y)
+map-at g y z [] i h = absurd (omega arith)
+map-at g y z (x ∷ xs) zero h = refl
+map-at g y z (x ∷ xs) (suc i) h = map-at g y z xs i (le-of-suc-le-suc h)
+
 -- a sum over members is a sum over places
 pub sum-places : {A : Type 0} (z : A) (g : A → ℕ) (xs : List A) → sumOver (λ p. g (getD xs p z)) (below (length xs)) ≡ sumOver g xs
 sum-places {A} z g xs = front (length xs) (le-refl _) ∙ ap (sumOver g) (take-length xs)
@@ -100,6 +106,11 @@ module _ {A : Type 0} (new old : List A) where
   pub onto-drop : drop (length new) (onto new old) ≡ drop (length new) old
   unfolding onto
   onto-drop = drop-append-seam new (drop (length new) old)
+
+  -- a room that is written in all its length is new
+  pub onto-all : length new ≡ length old → onto new old ≡ new
+  unfolding onto
+  onto-all e = ap (λ (n : ℕ). new ++ drop n old) e ∙ ap (λ (l : List A). new ++ l) (drop-length old) ∙ append-nil new
 
   -- so a part of n entries at the front is lent and comes back new
   pub onto-part : (n : ℕ) → length new ≡ n → new ++ drop n old ≡ onto new old

@@ -3,4 +3,4 @@ pub mod Purse
 pub mod Stack
 pub mod StackLaws
 pub mod RoomLaws
-pub mod Promises
+pub mod Request1

@@ -8,6 +8,6 @@ use Rattle.search.specs.declared.purse.Purse.{Purse}
 abbrev pub oneLeft : Purse → Bool
 oneLeft purse = not (eqb (purse .left) 0)
 
--- it is made: one left less, one made more; where none is left nothing changes
+-- it is taken: one left less, one followed more; where none is left nothing changes
 abbrev pub taken : Purse → Purse
-taken purse = cond (eqb (purse .left) 0) purse (record { left = purse .left - 1; made = purse .made + 1 })
+taken purse = cond (eqb (purse .left) 0) purse (record { left = purse .left - 1; followed = purse .followed + 1 })

@@ -1,22 +1,21 @@
 -- What the whole search leaves in the rooms lent, and an answer read back from what it says. Assumes nothing.
 use mathlib.Core.Path.{_≡_, refl, sym, ap, ap₂, _∙_}
-use mathlib.Core.List.{List, _++_, append-nil}
+use mathlib.Core.List.{List, _++_}
 use Prim.Native.Nat.{ℕ, _+_, _≤_}
 use native.Mathlib.Omega.{arith}
 use borrow.Author.Tests.{ltb-false}
 use lib.Dec.{ltb}
 use lib.ListN.{length, drop, replicate, length-replicate}
-use lib.Seq.{drop-length}
 use Rattle.told.specs.Told.{Told, refused, says, when}
 use Rattle.told.specs.ToldLaws.{neither, not-held}
 use Rattle.sizes.specs.Sizes.{boardCells, tableSize, stackSize}
 use Rattle.listing.specs.Listing.{onto}
-use Rattle.listing.specs.Places.{place-length, onto-part}
+use Rattle.listing.specs.Places.{place-length, onto-all, onto-part}
 use Rattle.board.specs.declared.Board.{Board}
 use Rattle.settling.specs.Boards.{rowsOf}
 use Rattle.advice.specs.Advising.{domainsOf, settledOf, roomsRefuse}
 use Rattle.advice.specs.StepLaws.{left-length, rooms-sound}
-use Rattle.searching.specs.Searching.{searched, needed, Ending, ends, remain}
+use Rattle.searching.specs.Searching.{searched, needed, Ending, ends, choicesLeft}
 use Rattle.search.specs.declared.Answer.{Answer}
 use Rattle.search.specs.declared.Answer.the-variants.{Solved, None, Spent, Refused}
 use Rattle.search.specs.declared.purse.Purse.{Purse}
@@ -25,17 +24,12 @@ use Rattle.search.specs.declared.inner.Verdict.the-variants as verdict
 use Rattle.search.specs.Finishing.{Word, itIsSolved, thereIsNone, itIsSpent, told, wordOf, domainsAfter, foundOn, endOf, lentRefuses, emptied, lent}
 use Rattle.search.specs.Stack.{shown, Ended, wordBy, Ran, Finished}
 
--- a room that is written in all its length
-onto-whole : (new old : List ℕ) → length new ≡ length old → onto new old ≡ new
-unfolding onto
-onto-whole new old e = ap (λ (n : ℕ). new ++ drop n old) e ∙ ap (λ (l : List ℕ). new ++ l) (drop-length old) ∙ append-nil new
-
--- the board's domains stored in it, and settled there
+-- the board's domains stored in a slice of just the cells, and settled there
 pub stored-whole : (board : Board) (d new : List ℕ) → length d ≡ board .cells → new ≡ onto (domainsOf board) d → new ≡ domainsOf board
-stored-whole board d new n e = e ∙ onto-whole (domainsOf board) d (place-length _ (board .cells) ∙ sym n)
+stored-whole board d new n e = e ∙ onto-all (domainsOf board) d (place-length _ (board .cells) ∙ sym n)
 
 pub settled-whole : (board : Board) (d new : List ℕ) → length d ≡ board .cells → new ≡ onto (settledOf board .left) d → new ≡ settledOf board .left
-settled-whole board d new n e = e ∙ onto-whole (settledOf board .left) d (left-length board ∙ sym n)
+settled-whole board d new n e = e ∙ onto-all (settledOf board .left) d (left-length board ∙ sym n)
 
 -- ---- the whole search
 
@@ -44,15 +38,15 @@ word-shown verdict.Solved d = refl
 word-shown verdict.None d = refl
 word-shown verdict.Spent d = refl
 
-pub ran : (board : Board) (choices : ℕ) (purse purse′ : Purse) (v : Verdict) (start found left stack stack′ : List ℕ) → purse .left ≡ choices → purse .made ≡ 0
+pub ran : (board : Board) (choices : ℕ) (purse purse′ : Purse) (v : Verdict) (start found left stack stack′ : List ℕ) → purse .left ≡ choices → purse .followed ≡ 0
     → start ≡ domainsOf board → Ended purse (searched (rowsOf board) start) v purse′ found → left ≡ domainsAfter (shown v found) (settledOf board .left)
     → length stack ≡ stackSize → stack′ ≡ replicate (length stack) 0 → Ran board choices v purse′ left stack′
-unfolding foundOn remain needed
+unfolding foundOn choicesLeft needed
 ran board choices purse purse′ v start found left stack stack′ l m e c q n z =
     let same : ends (purse .left) (searched (rowsOf board) start) ≡ endOf board choices = ap₂ (λ (k : ℕ) (d : List ℕ). ends k (searched (rowsOf board) d)) l e in
     record {
       word = word-shown v found ∙ ap wordOf (c .end ∙ same);
-      remains = c .remains ∙ ap₂ (λ (k : ℕ) (d : List ℕ). remain k (searched (rowsOf board) d)) l e;
+      remains = c .remains ∙ ap₂ (λ (k : ℕ) (d : List ℕ). choicesLeft k (searched (rowsOf board) d)) l e;
       purse-same = omega (arith, c .purse-same);
       domains-are = q ∙ ap (λ (x : Ending). domainsAfter x (settledOf board .left)) (c .end ∙ same);
       stack-is = z ∙ ap (λ (k : ℕ). replicate k 0) n;

@@ -11,7 +11,7 @@ use Rattle.board.specs.Sound.{SoundBoard}
 use Rattle.settling.specs.Settling.{Row}
 use Rattle.settling.specs.Boards.{rowsOf}
 use Rattle.advice.specs.Advising.{settledOf}
-use Rattle.searching.specs.Searching.{Found, Ending, solved, none, spent, ends, remain, Playable}
+use Rattle.searching.specs.Searching.{Found, Ending, solved, none, spent, ends, choicesLeft, Playable}
 use Rattle.searching.specs.Levels.{searchAll, openCells}
 use Rattle.search.specs.declared.purse.Purse.{Purse}
 use Rattle.search.specs.declared.inner.Verdict.{Verdict}
@@ -52,7 +52,7 @@ pub record UnderWay (board : Board) (h : ℕ) (purse : Purse) (d stack forward b
   pub stack-room : stackSize ≤ length stack
   pub forward-room : tableSize ≤ length forward
   pub backward-room : tableSize ≤ length backward
-  pub purse-fits : purse .left + purse .made < 2 ^ 64
+  pub purse-fits : purse .left + purse .followed < 2 ^ 64
 
 -- the ending that a verdict stands for; after Solved d is the filling
 abbrev pub shown : Verdict → List ℕ → Ending
@@ -63,7 +63,7 @@ shown verdict.Spent d = spent
 -- the same ending and the same choices remaining come from what is found now, with these choices left, as from what was found before
 pub record Same (left : ℕ) (now : Found) (before-left : ℕ) (before : Found) : Type 0 where
   pub same-end : ends left now ≡ ends before-left before
-  pub same-remain : remain left now ≡ remain before-left before
+  pub same-left : choicesLeft left now ≡ choicesLeft before-left before
 
 -- a step goes on from other domains and levels, and comes nearer to the end; or it is over
 pub record Onward (rs : List Row) (h : ℕ) (purse : Purse) (d stack : List ℕ) (h′ : ℕ) (purse′ : Purse) (d′ stack′ : List ℕ) : Type 0 where
@@ -71,12 +71,12 @@ pub record Onward (rs : List Row) (h : ℕ) (purse : Purse) (d stack : List ℕ)
   pub cells : length d′ ≡ length d
   pub roomy : Roomy rs (length d′) (trying h′ d′ stack′)
   pub nearer : 2 * purse′ .left + h′ < 2 * purse .left + h
-  pub purse-same : purse′ .left + purse′ .made ≡ purse .left + purse .made
+  pub purse-same : purse′ .left + purse′ .followed ≡ purse .left + purse .followed
 
 pub record Ended (purse : Purse) (before : Found) (v : Verdict) (purse′ : Purse) (d′ : List ℕ) : Type 0 where
   pub end : shown v d′ ≡ ends (purse .left) before
-  pub remains : purse′ .left ≡ remain (purse .left) before
-  pub purse-same : purse′ .left + purse′ .made ≡ purse .left + purse .made
+  pub remains : purse′ .left ≡ choicesLeft (purse .left) before
+  pub purse-same : purse′ .left + purse′ .followed ≡ purse .left + purse .followed
 
 abbrev pub Stepped : List Row → ℕ → Purse → List ℕ → List ℕ → Step → List ℕ → List ℕ → Type 0
 Stepped rs h purse d stack (Again h′ purse′) d′ stack′ = Onward rs h purse d stack h′ purse′ d′ stack′
@@ -94,7 +94,7 @@ wordBy verdict.Spent = itIsSpent
 pub record Ran (board : Board) (choices : ℕ) (v : Verdict) (purse : Purse) (d stack : List ℕ) : Type 0 where
   pub word : wordBy v ≡ wordOf (endOf board choices)
   pub remains : purse .left ≡ choices - neededOn board
-  pub purse-same : purse .left + purse .made ≡ choices
+  pub purse-same : purse .left + purse .followed ≡ choices
   pub domains-are : d ≡ domainsAfter (endOf board choices) (settledOf board .left)
   pub stack-is : stack ≡ replicate stackSize 0
 
@@ -102,6 +102,6 @@ pub record Ran (board : Board) (choices : ℕ) (v : Verdict) (purse : Purse) (d 
 pub record Finished (board : Board) (choices : ℕ) (room stack : List ℕ) (v : Verdict) (purse : Purse) (new-room new-stack : List ℕ) : Type 0 where
   pub word : wordBy v ≡ wordOf (endOf board choices)
   pub remains : purse .left ≡ choices - neededOn board
-  pub purse-same : purse .left + purse .made ≡ choices
+  pub purse-same : purse .left + purse .followed ≡ choices
   pub room-is : new-room ≡ onto (domainsAfter (endOf board choices) (settledOf board .left)) room
   pub stack-is : new-stack ≡ emptied stack

@@ -1,6 +1,7 @@
 -- The levels of the stack room, and the ways that a step can go. Assumes nothing.
 use mathlib.Core.Path.{_≡_, refl, sym, ap, ap₂, _∙_, subst}
 use mathlib.Core.Bool.{Bool, true, false, not}
+use mathlib.Core.Logic.{_≢_}
 use mathlib.Core.List.{List, [], _∷_, _++_}
 use Prim.Native.Nat.{ℕ, zero, suc, _+_, _-_, _*_, _^_, _≤_, _<_}
 use native.Mathlib.Nat.{le-refl}
@@ -13,7 +14,7 @@ use lib.ListN.{length, getD, take, drop, length-drop, length-map, replicate, len
 use lib.Seq.{take-append-le, drop-append-le, length-take-le, drop-at, take-at, ext-getD}
 use Rattle.sizes.specs.Sizes.{values, boardCells, tableSize, stackSize}
 use Rattle.listing.specs.Written.{Written}
-use Rattle.listing.specs.Places.{place-length, place-member, onto-late}
+use Rattle.listing.specs.Places.{place-length, place-member, map-at, onto-late}
 use Rattle.board.specs.declared.Board.{Board}
 use Rattle.board.specs.Board.{rowAt}
 use Rattle.board.specs.Sound.{SoundBoard}
@@ -24,10 +25,10 @@ use Rattle.settling.specs.BoardLaws.{sound-fits, sound-accepted}
 use Rattle.choose.specs.Advice.{cleared}
 use Rattle.choose.specs.Steps.{SameRest}
 use Rattle.choosing.specs.Choosing.{Candidate, dead, settled, advise, toLowest, choose}
-use Rattle.searching.specs.Searching.{lowest, lowests, followed, removed, Found, nothing, one, searched, ends, remain, Playable}
+use Rattle.searching.specs.Searching.{lowest, lowests, cutTo, removed, Found, nothing, one, searched, ends, choicesLeft, Playable}
 use Rattle.searching.specs.Levels.{searchAll, openCells}
-use Rattle.searching.specs.Looks.{Branches, getD-map, open-most, look-of, advice-fits, branch-branches}
-use Rattle.searching.specs.Searches.{ends-enough, ends-paid, remain-paid, ends-broke, remain-broke, all-none, all-one, all-empty, all-filled, all-branch}
+use Rattle.searching.specs.Looks.{Branches, open-most, look-of, advice-fits, branch-branches}
+use Rattle.searching.specs.Searches.{ends-enough, ends-more, left-more, ends-broke, left-broke, all-none, all-one, all-empty, all-filled, all-branch}
 use Rattle.search.specs.declared.purse.Purse.{Purse}
 use Rattle.search.specs.declared.inner.Verdict.{Verdict}
 use Rattle.search.specs.declared.inner.Verdict.the-variants as verdict
@@ -60,7 +61,7 @@ module _ (board : Board) (sound : SoundBoard board) where
 pub cut-end : (d new : List ℕ) (i : ℕ) → i ≤ length new → length new ≤ i → length new ≡ length d → Written (λ k. 2 ^ lowest (getD d k 0)) d new 0 i → new ≡ lowests d
 cut-end d new i a b n w =
     ext-getD 0 new (lowests d) (n ∙ sym (length-map d (λ e. 2 ^ lowest e)))
-    (λ k l. w .inside k (omega arith) (omega arith) ∙ sym (getD-map (λ e. 2 ^ lowest e) d k (omega arith)))
+    (λ k l. w .inside k (omega arith) (omega arith) ∙ sym (map-at (λ e. 2 ^ lowest e) 0 0 d k (omega arith)))
 
 -- ---- the stack
 
@@ -97,7 +98,7 @@ levels-saved n h st x e l m =
 
 -- ---- a search under way
 
-module _ (board : Board) (h : ℕ) (purse : Purse) (d stack forward backward : List ℕ) (way : UnderWay board h purse d stack forward backward) where
+module _ {board : Board} {h : ℕ} {purse : Purse} {d stack forward backward : List ℕ} (way : UnderWay board h purse d stack forward backward) where
   abbrev rows : List Row
   rows = rowsOf board
 
@@ -127,42 +128,42 @@ module _ (board : Board) (h : ℕ) (purse : Purse) (d stack forward backward : L
   module _ (purse′ : Purse) (d′ : List ℕ) (p : purse′ ≡ purse) where
     pub step-none : dead ≡ choose toLowest (rowsOf board) (settle (rowsOf board) d .left) → h ≡ 0
         → Ended purse (searchAll (rowsOf board) (trying h d stack)) verdict.None purse′ d′
-    unfolding levels remain
+    unfolding levels choicesLeft
     step-none e z =
         let found : searchAll (rowsOf board) (trying h d stack) ≡ nothing 0 =
         ap (λ (k : ℕ). searchAll (rowsOf board) (trying k d stack)) z ∙ all-empty (rowsOf board) d [] (look-of (rowsOf board) d dead e) ∙ all-none (rowsOf board) in
         record {
           end = sym (ap (ends (purse .left)) found ∙ ends-enough (purse .left) (nothing 0) (omega arith));
-          remains = ap (λ (q : Purse). q .left) p ∙ sym (ap (remain (purse .left)) found ∙ omega arith);
+          remains = ap (λ (q : Purse). q .left) p ∙ sym (ap (choicesLeft (purse .left)) found ∙ omega arith);
           purse-same = rw p;
         }
 
     pub step-solved : settled ≡ choose toLowest (rowsOf board) (settle (rowsOf board) d .left) → d′ ≡ lowests (settle (rowsOf board) d .left)
         → Ended purse (searchAll (rowsOf board) (trying h d stack)) verdict.Solved purse′ d′
-    unfolding remain
+    unfolding choicesLeft
     step-solved e q =
         let found : searchAll (rowsOf board) (trying h d stack) ≡ one d′ 0 =
         all-filled (rowsOf board) d (lowests left) (levels (length d) h stack) (look-of (rowsOf board) d settled e) ∙ ap (λ (f : List ℕ). one f 0) (sym q) in
         record {
           end = sym (ap (ends (purse .left)) found ∙ ends-enough (purse .left) (one d′ 0) (omega arith));
-          remains = ap (λ (q : Purse). q .left) p ∙ sym (ap (remain (purse .left)) found ∙ omega arith);
+          remains = ap (λ (q : Purse). q .left) p ∙ sym (ap (choicesLeft (purse .left)) found ∙ omega arith);
           purse-same = rw p;
         }
 
     pub step-spent : (x : Candidate) (share : Float) → advise x share ≡ choose toLowest (rowsOf board) (settle (rowsOf board) d .left) → purse .left ≡ 0
         → Ended purse (searchAll (rowsOf board) (trying h d stack)) verdict.Spent purse′ d′
     step-spent x share e z =
-        let found = all-branch (rowsOf board) d (followed left (x .cell) (x .value)) (removed left (x .cell) (x .value)) (levels (length d) h stack) playable (look-of (rowsOf board) d (advise x share) e) in
+        let found = all-branch (rowsOf board) d (cutTo left (x .cell) (x .value)) (removed left (x .cell) (x .value)) (levels (length d) h stack) playable (look-of (rowsOf board) d (advise x share) e) in
         record {
-          end = sym (ap₂ ends z found ∙ ends-broke (searchAll (rowsOf board) (followed left (x .cell) (x .value) ∷ removed left (x .cell) (x .value) ∷ levels (length d) h stack)));
-          remains = ap (λ (q : Purse). q .left) p ∙ z ∙ sym (ap₂ remain z found ∙ remain-broke (searchAll (rowsOf board) (followed left (x .cell) (x .value) ∷ removed left (x .cell) (x .value) ∷ levels (length d) h stack)));
+          end = sym (ap₂ ends z found ∙ ends-broke (searchAll (rowsOf board) (cutTo left (x .cell) (x .value) ∷ removed left (x .cell) (x .value) ∷ levels (length d) h stack)));
+          remains = ap (λ (q : Purse). q .left) p ∙ z ∙ sym (ap₂ choicesLeft z found ∙ left-broke (searchAll (rowsOf board) (cutTo left (x .cell) (x .value) ∷ removed left (x .cell) (x .value) ∷ levels (length d) h stack)));
           purse-same = rw p;
         }
 
   -- ---- the advice is followed
 
   module _ (x : Candidate) (share : Float) (e : advise x share ≡ choose toLowest (rowsOf board) (settle (rowsOf board) d .left)) where
-    fewer : Branches (rowsOf board) d (followed left (x .cell) (x .value)) (removed left (x .cell) (x .value))
+    fewer : Branches (rowsOf board) d (cutTo left (x .cell) (x .value)) (removed left (x .cell) (x .value))
     fewer = branch-branches (rowsOf board) d playable _ _ (look-of (rowsOf board) d (advise x share) e)
 
     pub level-free : h < boardCells
@@ -175,25 +176,25 @@ module _ (board : Board) (h : ℕ) (purse : Purse) (d stack forward backward : L
         let fits = advice-fits (rowsOf board) d (playable .accepted) x share e in
         rw q (omega (arith, left-cells, small), way .stack-room, level-free, fits .0, fits .1, fits .2)
 
-    pub step-on : (purse′ : Purse) (d′ stack′ : List ℕ) → (purse .left ≡ 0 → ⊥) → purse′ .left ≡ purse .left - 1 → purse′ .made ≡ purse .made + 1
-        → d′ ≡ followed left (x .cell) (x .value) → stack′ ≡ saved stack h (removed left (x .cell) (x .value))
+    pub step-on : (purse′ : Purse) (d′ stack′ : List ℕ) → purse .left ≢ 0 → purse′ .left ≡ purse .left - 1 → purse′ .followed ≡ purse .followed + 1
+        → d′ ≡ cutTo left (x .cell) (x .value) → stack′ ≡ saved stack h (removed left (x .cell) (x .value))
         → Onward (rowsOf board) h purse d stack (h + 1) purse′ d′ stack′
     unfolding Roomy
     step-on purse′ d′ stack′ z l m p q =
-        let a = followed left (x .cell) (x .value) in
+        let a = cutTo left (x .cell) (x .value) in
         let b = removed left (x .cell) (x .value) in
         let ds = levels (length d) h stack in
         let f : length d′ ≡ length d = ap length p ∙ fewer .first-within .cells in
         let t : levels (length d′) (h + 1) stack′ ≡ removed left (x .cell) (x .value) ∷ levels (length d) h stack =
         rw (f, q) (levels-saved (length d) h stack (removed left (x .cell) (x .value)) (fewer .second-within .cells) small (omega (arith, way .stack-room, level-free))) in
-        let found = all-branch (rowsOf board) d (followed left (x .cell) (x .value)) (removed left (x .cell) (x .value)) (levels (length d) h stack) playable (look-of (rowsOf board) d (advise x share) e) in
-        let whole : searchAll (rowsOf board) (trying (h + 1) d′ stack′) ≡ searchAll (rowsOf board) (followed left (x .cell) (x .value) ∷ removed left (x .cell) (x .value) ∷ levels (length d) h stack) =
+        let found = all-branch (rowsOf board) d (cutTo left (x .cell) (x .value)) (removed left (x .cell) (x .value)) (levels (length d) h stack) playable (look-of (rowsOf board) d (advise x share) e) in
+        let whole : searchAll (rowsOf board) (trying (h + 1) d′ stack′) ≡ searchAll (rowsOf board) (cutTo left (x .cell) (x .value) ∷ removed left (x .cell) (x .value) ∷ levels (length d) h stack) =
         ap₂ (λ (y : List ℕ) (ys : List (List ℕ)). searchAll (rowsOf board) (y ∷ ys)) p t in
         let o : purse′ .left + 1 ≡ purse .left = omega arith in
         record {
           same = record {
-            same-end = ap (ends (purse′ .left)) whole ∙ sym (ends-paid (purse′ .left) _) ∙ ap₂ ends o (sym found);
-            same-remain = ap (remain (purse′ .left)) whole ∙ sym (remain-paid (purse′ .left) _) ∙ ap₂ remain o (sym found);
+            same-end = ap (ends (purse′ .left)) whole ∙ sym (ends-more (purse′ .left) 1 _) ∙ ap₂ ends o (sym found);
+            same-left = ap (choicesLeft (purse′ .left)) whole ∙ sym (left-more (purse′ .left) 1 _) ∙ ap₂ choicesLeft o (sym found);
           };
           cells = f;
           roomy = rw (t, f) (
@@ -208,17 +209,13 @@ module _ (board : Board) (h : ℕ) (purse : Purse) (d stack forward backward : L
 
 -- ---- back to the last level saved
 
-pub may-restore : (board : Board) (h : ℕ) (purse : Purse) (d stack forward backward : List ℕ) → UnderWay board h purse d stack forward backward
-    → (s : List ℕ) → s ≡ settle (rowsOf board) d .left → (h ≡ 0 → ⊥) → (length s ≤ boardCells) × (stackSize ≤ length stack) × (h - 1 < boardCells)
-may-restore board h purse d stack forward backward way s q z = (
-  omega (arith, ap length q, left-cells board h purse d stack forward backward way, small board h purse d stack forward backward way),
-  way .stack-room,
-  omega (arith, levels-most board h purse d stack forward backward way),
-)
+pub may-restore : {board : Board} {h : ℕ} {purse : Purse} {d stack forward backward : List ℕ} → UnderWay board h purse d stack forward backward
+    → (s : List ℕ) → s ≡ settle (rowsOf board) d .left → h ≢ 0 → (length s ≤ boardCells) × (stackSize ≤ length stack) × (h - 1 < boardCells)
+may-restore way s q z = (omega (arith, ap length q, left-cells way, small way), way .stack-room, omega (arith, levels-most way))
 
-module _ (board : Board) (purse : Purse) (d stack forward backward : List ℕ) where
+module _ {board : Board} {purse : Purse} {d stack forward backward : List ℕ} where
   pub step-back : (h : ℕ) → UnderWay board h purse d stack forward backward → (purse′ : Purse) (d′ : List ℕ) → purse′ ≡ purse
-      → dead ≡ choose toLowest (rowsOf board) (settle (rowsOf board) d .left) → (h ≡ 0 → ⊥) → d′ ≡ level (length d) (h - 1) stack
+      → dead ≡ choose toLowest (rowsOf board) (settle (rowsOf board) d .left) → h ≢ 0 → d′ ≡ level (length d) (h - 1) stack
       → Onward (rowsOf board) h purse d stack (h - 1) purse′ d′ stack
   unfolding levels Roomy
   step-back zero way purse′ d′ same e z p = absurd (z refl)
@@ -228,12 +225,12 @@ module _ (board : Board) (purse : Purse) (d stack forward backward : List ℕ) w
       let r = way .roomy .3 in
       let f : length d′ ≡ length d = ap length q ∙ r .1 in
       let l : purse′ .left ≡ purse .left = ap (λ (y : Purse). y .left) same in
-      let m : purse′ .made ≡ purse .made = ap (λ (y : Purse). y .made) same in
+      let m : purse′ .followed ≡ purse .followed = ap (λ (y : Purse). y .followed) same in
       let whole : searchAll (rowsOf board) (trying (suc h - 1) d′ stack) ≡ searchAll (rowsOf board) (levels (length d) (suc h) stack) =
       rw (k, f) (ap (λ (y : List ℕ). searchAll (rowsOf board) (y ∷ levels (length d) h stack)) q) in
       let found = all-empty (rowsOf board) d (levels (length d) (suc h) stack) (look-of (rowsOf board) d dead e) in
       record {
-        same = record { same-end = ap₂ ends l (whole ∙ sym found); same-remain = ap₂ remain l (whole ∙ sym found) };
+        same = record { same-end = ap₂ ends l (whole ∙ sym found); same-left = ap₂ choicesLeft l (whole ∙ sym found) };
         cells = f;
         roomy = rw (k, f) (subst (λ (y : List ℕ). Playable (rowsOf board) y) (sym q) (r .0), refl, omega (arith, ap openCells q, r .2), r .3);
         nearer = omega arith;
@@ -249,15 +246,15 @@ module _ (board : Board) (sound : SoundBoard board) (d stack : List ℕ) (ok : P
 
 pub start-same : (rs : List Row) (left : ℕ) (d stack : List ℕ) → Same left (searchAll rs (trying 0 d stack)) left (searched rs d)
 unfolding levels
-start-same rs left d stack = record { same-end = ap (ends left) (all-one rs d); same-remain = ap (remain left) (all-one rs d) }
+start-same rs left d stack = record { same-end = ap (ends left) (all-one rs d); same-left = ap (choicesLeft left) (all-one rs d) }
 
 pub same-trans : (l m n : ℕ) (a b c : Found) → Same l a m b → Same m b n c → Same l a n c
-same-trans l m n a b c p q = record { same-end = p .same-end ∙ q .same-end; same-remain = p .same-remain ∙ q .same-remain }
+same-trans l m n a b c p q = record { same-end = p .same-end ∙ q .same-end; same-left = p .same-left ∙ q .same-left }
 
 pub ended-trans : (held purse purse′ : Purse) (now before : Found) (v : Verdict) (d′ : List ℕ) → Same (held .left) now (purse .left) before
-    → held .left + held .made ≡ purse .left + purse .made → Ended held now v purse′ d′ → Ended purse before v purse′ d′
+    → held .left + held .followed ≡ purse .left + purse .followed → Ended held now v purse′ d′ → Ended purse before v purse′ d′
 ended-trans held purse purse′ now before v d′ same sum e =
-    record { end = e .end ∙ same .same-end; remains = e .remains ∙ same .same-remain; purse-same = e .purse-same ∙ sum }
+    record { end = e .end ∙ same .same-end; remains = e .remains ∙ same .same-left; purse-same = e .purse-same ∙ sum }
 
 -- ---- tables
 
@@ -273,8 +270,8 @@ pub none-left : (purse : Purse) (t : Bool) → t ≡ oneLeft purse → not t ≡
 none-left purse t e q = eqb-true (purse .left) 0 (not-false (eqb (purse .left) 0) (sym e ∙ not-true t q))
 
 pub one-left : (purse purse′ : Purse) (t : Bool) → t ≡ oneLeft purse → not t ≡ false → purse′ ≡ taken purse
-    → (purse .left ≡ 0 → ⊥) × (purse′ .left ≡ purse .left - 1) × (purse′ .made ≡ purse .made + 1)
+    → (purse .left ≢ 0) × (purse′ .left ≡ purse .left - 1) × (purse′ .followed ≡ purse .followed + 1)
 one-left purse purse′ t e q p =
     let f : eqb (purse .left) 0 ≡ false = not-true (eqb (purse .left) 0) (sym e ∙ not-false t q) in
-    let w : purse′ ≡ record { left = purse .left - 1; made = purse .made + 1 } = p ∙ rw f in
-    (eqb-false (purse .left) 0 f, ap (λ (y : Purse). y .left) w, ap (λ (y : Purse). y .made) w)
+    let w : purse′ ≡ record { left = purse .left - 1; followed = purse .followed + 1 } = p ∙ rw f in
+    (eqb-false (purse .left) 0 f, ap (λ (y : Purse). y .left) w, ap (λ (y : Purse). y .followed) w)

@@ -20,7 +20,7 @@ ghost use Rattle.settling.specs.Settling.{settle};
 ghost use Rattle.settling.specs.Boards.{rowsOf};
 ghost use Rattle.choosing.specs.Choosing.{toLowest, choose as choice};
 ghost use Rattle.choose.specs.Advice.{told, cleared};
-ghost use Rattle.searching.specs.Searching.{lowest, lowests, followed, removed, searched};
+ghost use Rattle.searching.specs.Searching.{lowest, lowests, cutTo, removed, searched};
 ghost use Rattle.advice.specs.Advising.{settledOf};
 ghost use Rattle.search.specs.Finishing.{domainsAfter};
 ghost use Rattle.search.specs.Stack.{level, saved, UnderWay, shown, Ended as Comes, Stepped, Ran, Finished};
@@ -32,10 +32,10 @@ pub enum Verdict {
     Spent,
 }
 
-// A step goes on with so many levels in use, or it is the last.
-pub enum Step {
-    Again { levels: usize, purse: Purse },
-    Over { verdict: Verdict, purse: Purse },
+// A step goes on with so many levels in use, or the search is over.
+enum Step {
+    Again(usize, Purse),
+    Over(Verdict, Purse),
 }
 
 // How a search ended, and what is left of its purse.
@@ -76,7 +76,7 @@ fn only(value: usize) -> u32
 }
 
 // The domain cut to its lowest value.
-fn cut(domain: u32) -> u32
+fn cut_to_lowest(domain: u32) -> u32
     ensures { λ r. ⌜ r ≡ 2 ^ lowest domain ⌝ }
 {
     let mut v: usize = 0;
@@ -90,13 +90,13 @@ fn cut(domain: u32) -> u32
 }
 
 // Each domain cut to its lowest value.
-fn cut_all(domains: &mut [u32])
+fn cut_all_to_lowest(domains: &mut [u32])
     ensures { λ r. ⌜ now (domains .exit) ≡ lowests (now (domains .entry)) ⌝ }
 {
     let mut i = 0;
     while i < domains.len() {
         let domain = domains[i];
-        domains[i] = cut(domain);
+        domains[i] = cut_to_lowest(domain);
         i += 1;
     }
 }
@@ -104,7 +104,7 @@ fn cut_all(domains: &mut [u32])
 // The advice is followed in the domains; those without the advised value are put into the level.
 fn follow(domains: &mut [u32], level: &mut [u32], cell: usize, value: usize)
     requires { ⌜ (length (now level) ≡ length (now domains)) × (cell < length (now domains)) × (value < values) × (2 ^ value ≤ getD (now domains) cell 0) ⌝ }
-    ensures { λ r. ⌜ (now (domains .exit) ≡ followed (now (domains .entry)) cell value) × (now (level .exit) ≡ removed (now (domains .entry)) cell value) ⌝ }
+    ensures { λ r. ⌜ (now (domains .exit) ≡ cutTo (now (domains .entry)) cell value) × (now (level .exit) ≡ removed (now (domains .entry)) cell value) ⌝ }
 {
     copy(level, domains);
     let p = only(value);
@@ -115,7 +115,7 @@ fn follow(domains: &mut [u32], level: &mut [u32], cell: usize, value: usize)
 // The advice is followed; the domains without its value are saved as level h.
 fn save(domains: &mut [u32], stack: &mut [u32], h: usize, cell: usize, value: usize)
     requires { ⌜ (length (now domains) ≤ boardCells) × (stackSize ≤ length (now stack)) × (h < boardCells) × (cell < length (now domains)) × (value < values) × (2 ^ value ≤ getD (now domains) cell 0) ⌝ }
-    ensures { λ r. ⌜ (now (domains .exit) ≡ followed (now (domains .entry)) cell value) × (now (stack .exit) ≡ saved (now (stack .entry)) h (removed (now (domains .entry)) cell value)) ⌝ }
+    ensures { λ r. ⌜ (now (domains .exit) ≡ cutTo (now (domains .entry)) cell value) × (now (stack .exit) ≡ saved (now (stack .entry)) h (removed (now (domains .entry)) cell value)) ⌝ }
 {
     let n = domains.len();
     let at = BOARD_CELLS * h;
@@ -149,21 +149,15 @@ fn take_step(
     match look(board, domains, forward, backward) {
         Advice::Dead => {
             if h == 0 {
-                return Step::Over {
-                    verdict: Verdict::None,
-                    purse,
-                };
+                return Step::Over(Verdict::None, purse);
             }
             let g = h - 1;
             restore(domains, stack, g);
-            Step::Again { levels: g, purse }
+            Step::Again(g, purse)
         }
         Advice::Settled => {
-            cut_all(domains);
-            Step::Over {
-                verdict: Verdict::Solved,
-                purse,
-            }
+            cut_all_to_lowest(domains);
+            Step::Over(Verdict::Solved, purse)
         }
         Advice::Advise {
             cell,
@@ -175,17 +169,11 @@ fn take_step(
         } => {
             let paying = after_choice(purse);
             if !paying.paid {
-                return Step::Over {
-                    verdict: Verdict::Spent,
-                    purse,
-                };
+                return Step::Over(Verdict::Spent, purse);
             }
             save(domains, stack, h, cell, value);
             let rest = paying.purse;
-            Step::Again {
-                levels: h + 1,
-                purse: rest,
-            }
+            Step::Again(h + 1, rest)
         }
     }
 }
@@ -199,7 +187,7 @@ fn descend(
     forward: &mut [u64],
     backward: &mut [u64],
 ) -> Ended
-    requires { ⌜ SoundBoard board × (length (now domains) ≡ board .cells) × (stackSize ≤ length (now stack)) × (tableSize ≤ length (now forward)) × (tableSize ≤ length (now backward)) × (purse .left + purse .made < 2 ^ 64) ⌝ }
+    requires { ⌜ SoundBoard board × (length (now domains) ≡ board .cells) × (stackSize ≤ length (now stack)) × (tableSize ≤ length (now forward)) × (tableSize ≤ length (now backward)) × (purse .left + purse .followed < 2 ^ 64) ⌝ }
     ensures { λ r. ⌜ Comes purse (searched (rowsOf board) (now (domains .entry))) (r .verdict) (r .purse) (now (domains .exit)) ⌝ }
     ensures { λ r. ⌜ (now (forward .exit) ≡ cleared (now (forward .entry))) × (now (backward .exit) ≡ cleared (now (backward .entry))) ⌝ }
 {
@@ -207,17 +195,11 @@ fn descend(
     let mut held = purse;
     loop {
         match take_step(board, h, held, domains, stack, forward, backward) {
-            Step::Again {
-                levels,
-                purse: rest,
-            } => {
+            Step::Again(levels, rest) => {
                 h = levels;
                 held = rest;
             }
-            Step::Over {
-                verdict,
-                purse: rest,
-            } => {
+            Step::Over(verdict, rest) => {
                 return Ended {
                     verdict,
                     purse: rest,
@@ -270,7 +252,7 @@ fn run(
     store(board, domains);
     let purse = Purse {
         left: choices,
-        made: 0,
+        followed: 0,
     };
     let ended = descend(board, purse, domains, stack, forward, backward);
     clear(stack);

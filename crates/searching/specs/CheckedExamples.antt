@@ -8,7 +8,7 @@ use Rattle.counting.specs.Counting.{listed, domainOf, size, fillings, weigh, to
 use Rattle.settling.specs.Settling.{Row, gather, scatter, visit, pass, after, passesAtMost, passesMade, settle}
 use Rattle.fraction.specs.Rank.{order}
 use Rattle.choosing.specs.Choosing.{choices, ofPlace, ofRow, candidates, byTies, stands, unbeaten, someEmpty, choose}
-use Rattle.searching.specs.Searching.{lowest, look, searchIn, searched, needed, Ending, solved, none, spent, ends}
+use Rattle.searching.specs.Searching.{lowest, searchIn, searched, needed, Ending, solved, none, spent, ends}
 
 abbrev row : List ℕ → List ℕ → ℕ → ℕ → Row
 row cs ws l h = record { cells = cs; weights = ws; low = l; high = h }
@@ -43,5 +43,5 @@ holds =
     && isSolved (0b10 ∷ 0b100 ∷ 0b1000 ∷ []) (ends 1 (searched rows domains))
 
 pub examples-hold : T holds
-unfolding howMany below byPlace listed domainOf size flatMap fillings weigh total count kept strike gather scatter visit pass after passesAtMost passesMade settle order choices ofPlace ofRow candidates byTies stands unbeaten someEmpty choose lowest look searchIn searched needed ends
+unfolding howMany below byPlace listed domainOf size flatMap fillings weigh total count kept strike gather scatter visit pass after passesAtMost passesMade settle order choices ofPlace ofRow candidates byTies stands unbeaten someEmpty choose lowest searchIn searched needed ends
 examples-hold = tt

@@ -1,9 +1,9 @@
 pub mod Searching
 pub mod CheckedExamples
 pub mod Levels
-pub mod Values
+pub mod Lowest
 pub mod Looks
 pub mod Searches
-pub mod Finished
+pub mod Request1
 pub mod CountedDown
 pub mod CountedDownLaws

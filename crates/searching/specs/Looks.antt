@@ -3,7 +3,7 @@
 use mathlib.Core.Path.{_≡_, refl, sym, ap, _∙_, subst}
 use mathlib.Core.Bool.{true}
 use mathlib.Core.Logic.{_⊎_, inl, inr}
-use mathlib.Core.List.{List, [], _∷_, map}
+use mathlib.Core.List.{List, [], _∷_, map, map-map}
 use Prim.Native.Nat.{ℕ, zero, suc, _+_, _-_, _^_, _≤_, _<_}
 use native.Mathlib.Nat.{le-of-suc-le-suc, le-refl}
 use native.Mathlib.Decide.{ℕ-discrete}
@@ -12,35 +12,44 @@ use borrow.Author.Tests.{ltb-true, lt-ltb}
 use lib.Dec.{ltb}
 use lib.Ieee.{Float}
 use lib.ListN.{length, getD, set, length-set, length-map}
-use lib.Seq.{getD-set-same, getD-set-other}
+use lib.Seq.{getD-set-other}
 use Rattle.told.specs.Told.{when}
 use Rattle.sizes.specs.Sizes.{values}
 use Rattle.listing.specs.Sums.{when-grows, never}
 use Rattle.listing.specs.Members.{at-in}
+use Rattle.listing.specs.Places.{map-at}
 use Rattle.counting.specs.Counting.{lists, listed, size, good, NoNewValue}
 use Rattle.counting.specs.Domains.{ones-most, empty-lists}
+use Rattle.counting.specs.Cuts.{power-le, cut-within, rest-within, cut-has, rest-has, cut-small, rest-small, cut-ones, rest-ones, set-within, size-set}
 use Rattle.counting.specs.Over.{filling-length, filling-at, filling-by}
-use Rattle.settling.specs.Settling.{Row, _∈_, Names, Accepted, gather, settle, BoardFilling}
-use Rattle.settling.specs.Families.{within-trans, filling-within, size-grows}
+use Rattle.settling.specs.Settling.{Row, _∈_, Loose, Accepted, gather, settle, BoardFilling}
+use Rattle.settling.specs.Families.{within-trans, set-domains, size-grows}
+use Rattle.settling.specs.Fillings.{filling-set}
 use Rattle.settling.specs.Cells.{gather-length, gather-at, gather-only}
-use Rattle.settling.specs.Demand3.{largest-family, left-accepted, value-in-filling, no-filling-lost, loose-cell}
+use Rattle.settling.specs.Demand3.{largest-family, left-accepted, value-in-filling, no-filling-lost, no-filling-new, loose-cell}
 use Rattle.choosing.specs.Choosing.{Candidate, Choice, dead, settled, advise, toLowest, choose, noRow, rowAt}
 use Rattle.choosing.specs.Promised.{SomeEmpty, NoneEmpty, Single, Open, Promised}
 use Rattle.choosing.specs.ChoiceLaws.{settled-promises}
-use Rattle.searching.specs.Searching.{lowest, lowests, ShowsFilling, followed, removed, Look, empty, filled, branch, seen, look, Playable}
+use Rattle.searching.specs.Searching.{lowest, lowests, ShowsFilling, cutTo, removed, Playable}
 use Rattle.searching.specs.Levels.{openCells}
-use Rattle.searching.specs.Values.{power-le, cut-within, rest-within, cut-has, rest-has, cut-small, rest-small, cut-ones, rest-ones, lowest-listed, only-lowest, set-within, set-domains, size-set}
+use Rattle.searching.specs.Lowest.{lowest-listed, only-lowest}
 
--- ---- lists
+-- ---- one look at domains
 
-pub getD-map : (g : ℕ → ℕ) (l : List ℕ) (i : ℕ) → i < length l → getD (map g l) i 0 ≡ g (getD l i 0)
-getD-map g [] i h = absurd (omega arith)
-getD-map g (x ∷ l) zero h = refl
-getD-map g (x ∷ l) (suc i) h = getD-map g l i (le-of-suc-le-suc h)
+-- what is seen once the domains are settled: no filling; a filling; or an advice, with the domains where it is followed and those where its value is
+-- removed
+pub data Look : Type 0 where
+  empty : Look
+  filled : List ℕ → Look
+  branch : List ℕ → List ℕ → Look
 
-map-map : (g h : ℕ → ℕ) (l : List ℕ) → map (λ x. g (h x)) l ≡ map g (map h l)
-map-map g h [] = refl
-map-map g h (x ∷ l) = ap (λ (t : List ℕ). g (h x) ∷ t) (map-map g h l)
+abbrev pub seen : Choice → List ℕ → Look
+seen dead s = empty
+seen settled s = filled (lowests s)
+seen (advise x share) s = branch (cutTo s (x .cell) (x .value)) (removed s (x .cell) (x .value))
+
+unfoldable pub look : List Row → List ℕ → Look
+look rs d = let s = settle rs d .left in seen (choose toLowest rs s) s
 
 -- ---- cells with two or more values
 
@@ -75,11 +84,6 @@ open-set [] c x l = absurd (omega arith)
 open-set (y ∷ d) zero x l = omega arith
 open-set (y ∷ d) (suc c) x l = omega (arith, open-set d c x (le-of-suc-le-suc l))
 
--- ---- a cell in no row
-
-abbrev pub Loose : List Row → ℕ → Type 0
-Loose rs c = (r : Row) → r ∈ rs → Names (r .cells) c → ⊥
-
 -- ---- what branches are
 
 pub record Branches (rs : List Row) (d a b : List ℕ) : Type 0 where
@@ -103,7 +107,7 @@ module _ (rs : List Row) where
   abbrev Led : List ℕ → Look → Type 0
   Led d empty = SomeEmpty (left d)
   Led d (filled e) = NoneEmpty (left d) × Single rs (left d) × (e ≡ lowests (left d))
-  Led d (branch a b) = (x : Candidate) × Open rs (left d) x × (a ≡ followed (left d) (x .cell) (x .value)) × (b ≡ removed (left d) (x .cell) (x .value))
+  Led d (branch a b) = (x : Candidate) × Open rs (left d) x × (a ≡ cutTo (left d) (x .cell) (x .value)) × (b ≡ removed (left d) (x .cell) (x .value))
 
   led : (d : List ℕ) → Accepted rs d → Led d (look rs d)
   unfolding look
@@ -116,19 +120,6 @@ module _ (rs : List Row) where
 
   led-by : (d : List ℕ) → Accepted rs d → (x : Look) → look rs d ≡ x → Led d x
   led-by d ok x e = subst (Led d) e (led d ok)
-
-  -- a filling of s whose value at c is listed by x is one of s with x there
-  filling-set : (s f : List ℕ) (c x : ℕ) → c < length s → BoardFilling rs s f → lists x (getD f c 0) ≡ true → BoardFilling rs (set s c x) f
-  filling-set s f c x l g q =
-      record {
-        filling = filling-by (set s c x) f (filling-length s f (g .filling) ∙ sym (length-set s c x))
-            (λ p k. let h = filling-at s f (g .filling) p (omega (arith, length-set s c x)) in (h .0, go p (ℕ-discrete p c) (h .1)));
-        is-good = g .is-good;
-      }
-    where
-      go : (p : ℕ) → Dec (p ≡ c) → lists (getD s p 0) (getD f p 0) ≡ true → lists (getD (set s c x) p 0) (getD f p 0) ≡ true
-      go p (yes e) h = rw (e, getD-set-same s c x 0 l) q
-      go p (no n) h = rw (getD-set-other s c p x 0 n) h
 
   -- what is chosen is what is seen
   pub look-of : (d : List ℕ) (k : Choice) → k ≡ choose toLowest rs (left d) → look rs d ≡ seen k (left d)
@@ -167,13 +158,13 @@ module _ (rs : List Row) where
           gather-only (map lowest (left d)) (r .cells) (w .0) (filling-length (gather (left d) (r .cells)) (w .0) (w .1 .filling) ∙ gather-length (left d) (r .cells)) (λ p l.
           let h = filling-at (gather (left d) (r .cells)) (w .0) (w .1 .filling) p (omega (arith, gather-length (left d) (r .cells))) in
           only-lowest (getD (left d) (getD (r .cells) p 0) 0) (getD (w .0) p 0) (single r m p l) (h .0) (rw (gather-at (left d) (r .cells) p l) at (h .1))
-          ∙ sym (getD-map lowest (left d) (getD (r .cells) p 0) (fits .inside p l))) in
+          ∙ sym (map-at lowest 0 0 (left d) (getD (r .cells) p 0) (fits .inside p l))) in
           rw same at (w .1 .is-good)
 
       lows : BoardFilling rs (left d) (map lowest (left d))
       lows =
           record {
-            filling = filling-by (left d) (map lowest (left d)) (length-map (left d) lowest) (λ p l. rw (getD-map lowest (left d) p l) (low p l));
+            filling = filling-by (left d) (map lowest (left d)) (length-map (left d) lowest) (λ p l. rw (map-at lowest 0 0 (left d) p l) (low p l));
             is-good = lows-good;
           }
 
@@ -183,8 +174,8 @@ module _ (rs : List Row) where
         let f = lows (w .0) (w .1) in
         record {
           taken = map lowest (left d);
-          filling = record { filling = filling-within (left d) d (largest-family rs d (ok .accepted) .within) _ (f .filling); is-good = f .is-good };
-          shown = w .2 ∙ map-map (λ v. 2 ^ v) lowest (left d);
+          filling = no-filling-new rs d (ok .accepted) _ f;
+          shown = w .2 ∙ sym (map-map (λ v. 2 ^ v) lowest (left d));
         }
 
     -- a cell in no row takes its lowest value
@@ -192,7 +183,7 @@ module _ (rs : List Row) where
     filled-loose e q c l h =
         let w = led-by d (ok .accepted) (filled e) q in
         ap (λ (t : List ℕ). getD t c 0) (w .2)
-        ∙ getD-map (λ x. 2 ^ lowest x) (left d) c (omega (arith, largest-family rs d (ok .accepted) .within .cells))
+        ∙ map-at (λ x. 2 ^ lowest x) 0 0 (left d) c (omega (arith, largest-family rs d (ok .accepted) .within .cells))
         ∙ ap (λ (x : ℕ). 2 ^ lowest x) (loose-cell rs d (ok .accepted) c h)
 
     -- ---- the branches of an advice
@@ -218,7 +209,7 @@ module _ (rs : List Row) where
           (λ e. h (rowAt rs (x .row)) (at-in noRow rs (x .row) (at .row-there)) (at .place, at .in-row, sym (at .cell-is) ∙ sym e))
           ∙ loose-cell rs d (ok .accepted) c h
 
-      branches : Branches rs d (followed (left d) (x .cell) (x .value)) (removed (left d) (x .cell) (x .value))
+      branches : Branches rs d (cutTo (left d) (x .cell) (x .value)) (removed (left d) (x .cell) (x .value))
       branches =
           let e = getD (left d) (x .cell) 0 in
           let v = x .value in
@@ -248,17 +239,17 @@ module _ (rs : List Row) where
           }
         where
           parts : (f : List ℕ) → BoardFilling rs (left d) f → Dec (getD f (x .cell) 0 ≡ x .value)
-              → BoardFilling rs (followed (left d) (x .cell) (x .value)) f ⊎ BoardFilling rs (removed (left d) (x .cell) (x .value)) f
+              → BoardFilling rs (cutTo (left d) (x .cell) (x .value)) f ⊎ BoardFilling rs (removed (left d) (x .cell) (x .value)) f
           parts f g (yes q) =
-              inl (filling-set (left d) f (x .cell) (2 ^ x .value) (at .cell-there) g
+              inl (filling-set rs (left d) f (x .cell) (2 ^ x .value) (at .cell-there) g
               (rw q (cut-has (getD (left d) (x .cell) 0) (x .value) (accepted .domains (x .cell)) (at .value-small) (at .value-listed))))
           parts f g (no n) =
               let h = filling-at (left d) f (g .filling) (x .cell) (at .cell-there) in
-              inr (filling-set (left d) f (x .cell) (getD (left d) (x .cell) 0 - 2 ^ x .value) (at .cell-there) g
+              inr (filling-set rs (left d) f (x .cell) (getD (left d) (x .cell) 0 - 2 ^ x .value) (at .cell-there) g
               (rest-has (getD (left d) (x .cell) 0) (x .value) (accepted .domains (x .cell)) (at .value-small) (at .value-listed) (getD f (x .cell) 0) (h .0) (h .1) n))
 
     pub branch-branches : (a b : List ℕ) → look rs d ≡ branch a b → Branches rs d a b
     branch-branches a b e =
         let w = led-by d (ok .accepted) (branch a b) e in
         subst (λ (y : List ℕ). Branches rs d y b) (sym (w .2)) (
-        subst (λ (y : List ℕ). Branches rs d (followed (left d) (w .0 .cell) (w .0 .value)) y) (sym (w .3)) (branches (w .0) (w .1)))
+        subst (λ (y : List ℕ). Branches rs d (cutTo (left d) (w .0 .cell) (w .0 .value)) y) (sym (w .3)) (branches (w .0) (w .1)))

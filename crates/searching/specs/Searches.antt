@@ -1,18 +1,19 @@
--- Laws of the search: findings joined, a limit on the choices, how deep is deep enough, and how a search goes on from a list of domains still
--- to be tried. Assumes nothing.
+-- Laws of the search: findings joined, the number of choices given, that the search ends by itself, and how it goes on from a list of domains still to be
+-- tried. Assumes nothing.
 use mathlib.Core.Path.{_≡_, refl, sym, ap, ap₂, _∙_}
-use mathlib.Core.Bool.{Bool, true, false}
+use mathlib.Core.Logic.{_⊎_, inl, inr, ⊎-elim}
 use mathlib.Core.List.{List, [], _∷_}
 use Prim.Native.Nat.{ℕ, zero, suc, _+_, _-_, _≤_, _<_}
 use native.Mathlib.Nat.{not-suc-le-zero, le-refl}
+use native.Mathlib.Decide.{decLt}
 use native.Mathlib.Omega.{arith}
-use lib.Dec.{leb}
-use borrow.Author.Tests.{le-leb, lt-leb, leb-true, leb-false}
+use borrow.Author.Tests.{le-ltb, lt-ltb}
 use Rattle.counting.specs.Counting.{size}
-use Rattle.settling.specs.Settling.{Row}
-use Rattle.searching.specs.Searching.{Look, empty, filled, branch, look, Found, nothing, one, made, more, orElse, searchIn, searched, spent, ending, ends, remain, Playable}
+use Rattle.settling.specs.Settling.{Row, settle}
+use Rattle.choosing.specs.Choosing.{Choice, dead, settled, advise, toLowest, choose}
+use Rattle.searching.specs.Searching.{lowests, cutTo, removed, Found, nothing, one, followed, more, orElse, searchIn, searched, spent, ending, ends, choicesLeft, Playable}
 use Rattle.searching.specs.Levels.{searchAll}
-use Rattle.searching.specs.Looks.{branch-branches}
+use Rattle.searching.specs.Looks.{Look, empty, filled, branch, seen, look, branch-branches}
 
 -- ---- findings joined
 
@@ -38,9 +39,9 @@ orElse-nothing (one e m) = refl
 
 -- ---- the limit
 
-pub made-more : (m : ℕ) (o : Found) → made (more m o) ≡ m + made o
-made-more m (nothing k) = refl
-made-more m (one e k) = refl
+pub followed-more : (m : ℕ) (o : Found) → followed (more m o) ≡ m + followed o
+followed-more m (nothing k) = refl
+followed-more m (one e k) = refl
 
 pub ending-more : (m : ℕ) (o : Found) → ending (more m o) ≡ ending o
 ending-more m (nothing k) = refl
@@ -51,56 +52,79 @@ ending-spent (nothing m) e = let z : _≡_ {A = ℕ} 0 1 = cc in omega arith
 ending-spent (one f m) e = let z : _≡_ {A = ℕ} 0 1 = cc in omega arith
 
 -- enough choices, and too few
-pub ends-enough : (n : ℕ) (o : Found) → made o ≤ n → ends n o ≡ ending o
+pub ends-enough : (n : ℕ) (o : Found) → followed o ≤ n → ends n o ≡ ending o
 unfolding ends
-ends-enough n o h = rw (le-leb _ _ h)
+ends-enough n o h = rw (le-ltb _ _ h)
 
-pub ends-short : (n : ℕ) (o : Found) → n < made o → ends n o ≡ spent
+pub ends-short : (n : ℕ) (o : Found) → n < followed o → ends n o ≡ spent
 unfolding ends
-ends-short n o h = rw (lt-leb _ _ h)
+ends-short n o h = rw (lt-ltb _ _ h)
 
-pub spent-short : (n : ℕ) (o : Found) → ends n o ≡ spent → n < made o
-spent-short n o e = go (leb (made o) n) refl
+-- it is one or the other
+pub enough-or-few : (n : ℕ) (o : Found) → (followed o ≤ n) ⊎ (n < followed o)
+enough-or-few n o = go (decLt n (followed o))
   where
-    go : (t : Bool) → leb (made o) n ≡ t → n < made o
-    go true q = absurd (ending-spent o (sym (ends-enough n o (leb-true _ _ q)) ∙ e))
-    go false q = leb-false _ _ q
+    go : Dec (n < followed o) → (followed o ≤ n) ⊎ (n < followed o)
+    go (yes l) = inr l
+    go (no l) = inl (omega arith)
 
--- a choice made, and one that can't be
-pub ends-paid : (n : ℕ) (o : Found) → ends (n + 1) (more 1 o) ≡ ends n o
-ends-paid n o = go (leb (made o) n) refl
-  where
-    go : (t : Bool) → leb (made o) n ≡ t → ends (n + 1) (more 1 o) ≡ ends n o
-    go true q = let h = leb-true _ _ q in ends-enough (n + 1) (more 1 o) (omega (arith, made-more 1 o)) ∙ ending-more 1 o ∙ sym (ends-enough n o h)
-    go false q = let h = leb-false _ _ q in ends-short (n + 1) (more 1 o) (omega (arith, made-more 1 o)) ∙ sym (ends-short n o h)
+pub spent-short : (n : ℕ) (o : Found) → ends n o ≡ spent → n < followed o
+spent-short n o e = ⊎-elim (λ h. absurd (ending-spent o (sym (ends-enough n o h) ∙ e))) (λ h. h) (enough-or-few n o)
 
-pub remain-paid : (n : ℕ) (o : Found) → remain (n + 1) (more 1 o) ≡ remain n o
-unfolding remain
-remain-paid n o = omega (arith, made-more 1 o)
+-- m choices followed, and m more needed
+pub ends-more : (n m : ℕ) (o : Found) → ends (n + m) (more m o) ≡ ends n o
+ends-more n m o =
+    ⊎-elim
+    (λ h. ends-enough (n + m) (more m o) (omega (arith, followed-more m o)) ∙ ending-more m o ∙ sym (ends-enough n o h))
+    (λ h. ends-short (n + m) (more m o) (omega (arith, followed-more m o)) ∙ sym (ends-short n o h))
+    (enough-or-few n o)
 
+pub left-more : (n m : ℕ) (o : Found) → choicesLeft (n + m) (more m o) ≡ choicesLeft n o
+unfolding choicesLeft
+left-more n m o = omega (arith, followed-more m o)
+
+-- a choice that can't be followed
 pub ends-broke : (o : Found) → ends 0 (more 1 o) ≡ spent
-ends-broke o = ends-short 0 (more 1 o) (omega (arith, made-more 1 o))
+ends-broke o = ends-short 0 (more 1 o) (omega (arith, followed-more 1 o))
 
-pub remain-broke : (o : Found) → remain 0 (more 1 o) ≡ 0
-unfolding remain
-remain-broke o = omega arith
+pub left-broke : (o : Found) → choicesLeft 0 (more 1 o) ≡ 0
+unfolding choicesLeft
+left-broke o = omega arith
 
 -- ---- one look
 
 module _ (rs : List Row) where
+  -- what comes of it
+  abbrev onward : ℕ → Look → Found
+  onward k empty = nothing 0
+  onward k (filled e) = one e 0
+  onward k (branch a b) = more 1 (orElse (searchIn k rs a) (searchIn k rs b))
+
+  by-look : (k : ℕ) (d : List ℕ) → searchIn (suc k) rs d ≡ onward k (look rs d)
+  unfolding searchIn look
+  by-look k d = go (choose toLowest rs (settle rs d .left)) (settle rs d .left)
+    where
+      go : (x : Choice) (s : List ℕ)
+          → elim x [
+            | dead ↦ nothing 0
+            | settled ↦ one (lowests s) 0
+            | advise x share ↦ more 1 (orElse (searchIn k rs (cutTo s (x .cell) (x .value))) (searchIn k rs (removed s (x .cell) (x .value))))
+          ] ≡ onward k (seen x s)
+      go dead s = refl
+      go settled s = refl
+      go (advise x share) s = refl
+
   pub in-empty : (k : ℕ) (d : List ℕ) → look rs d ≡ empty → searchIn (suc k) rs d ≡ nothing 0
-  unfolding searchIn
-  in-empty k d e = rw (searchIn, e)
+  in-empty k d e = by-look k d ∙ ap (onward k) e
 
   pub in-filled : (k : ℕ) (d f : List ℕ) → look rs d ≡ filled f → searchIn (suc k) rs d ≡ one f 0
-  unfolding searchIn
-  in-filled k d f e = rw (searchIn, e)
+  in-filled k d f e = by-look k d ∙ ap (onward k) e
 
   pub in-branch : (k : ℕ) (d a b : List ℕ) → look rs d ≡ branch a b → searchIn (suc k) rs d ≡ more 1 (orElse (searchIn k rs a) (searchIn k rs b))
-  unfolding searchIn
-  in-branch k d a b e = rw (searchIn, e)
+  in-branch k d a b e = by-look k d ∙ ap (onward k) e
 
-  -- how deep is allowed does not matter, once it is enough
+  -- ---- the number of settlings is never used up
+
   enough : (k j : ℕ) (d : List ℕ) → Playable rs d → size d < k → size d < j → searchIn k rs d ≡ searchIn j rs d
   enough zero j d ok p q = absurd (not-suc-le-zero p)
   enough (suc k) zero d ok p q = absurd (not-suc-le-zero q)
@@ -118,6 +142,11 @@ module _ (rs : List Row) where
           (ih b (s .second-playable) (omega (arith, s .second-less)) (omega (arith, s .second-less)))
           ∙ sym (in-branch j d a b e)
 
+  -- a larger number changes nothing
+  pub never-used-up : (k : ℕ) (d : List ℕ) → Playable rs d → size d < k → searchIn k rs d ≡ searched rs d
+  unfolding searched
+  never-used-up k d ok h = enough k (suc (size d)) d ok h (le-refl _)
+
   -- ---- the search, look by look
 
   pub search-empty : (d : List ℕ) → look rs d ≡ empty → searched rs d ≡ nothing 0
@@ -134,8 +163,8 @@ module _ (rs : List Row) where
       let s = branch-branches rs d ok a b e in
       in-branch (size d) d a b e
       ∙ ap₂ (λ x y. more 1 (orElse x y))
-      (enough (size d) (suc (size a)) a (s .first-playable) (s .first-less) (le-refl _))
-      (enough (size d) (suc (size b)) b (s .second-playable) (s .second-less) (le-refl _))
+      (never-used-up (size d) a (s .first-playable) (s .first-less))
+      (never-used-up (size d) b (s .second-playable) (s .second-less))
 
   -- what holds of a look holds of the search
   pub search-rule : (P : List ℕ → Found → Type 0)

@@ -4,7 +4,7 @@ use mathlib.Core.Path.{_≡_}
 use mathlib.Core.Bool.{cond}
 use mathlib.Core.List.{List, map}
 use Prim.Native.Nat.{ℕ, zero, suc, _+_, _-_, _^_, _≤_}
-use lib.Dec.{leb}
+use lib.Dec.{ltb}
 use lib.ListN.{length, getD, set}
 use Rattle.counting.specs.Counting.{listed, size}
 use Rattle.settling.specs.Settling.{Row, _∈_, Accepted, settle, BoardFilling}
@@ -20,47 +20,22 @@ lowest e = getD (listed e) 0 0
 abbrev pub lowests : List ℕ → List ℕ
 lowests d = map (λ e. 2 ^ lowest e) d
 
--- e shows a filling of the board: one domain for each cell, with one value each
+-- e shows a filling of the board: for each cell the domain of the one value taken
 pub record ShowsFilling (rs : List Row) (d e : List ℕ) : Type 0 where
   pub taken : List ℕ
   pub filling : BoardFilling rs d taken
   pub shown : e ≡ map (λ v. 2 ^ v) taken
 
--- ---- one look at domains
+-- ---- what is found
 
--- the advice followed: c is cut to v; and v removed from c
-abbrev pub followed : List ℕ → ℕ → ℕ → List ℕ
-followed d c v = set d c (2 ^ v)
-
-abbrev pub removed : List ℕ → ℕ → ℕ → List ℕ
-removed d c v = set d c (getD d c 0 - 2 ^ v)
-
--- what is seen once the domains are settled: an empty domain; a filling; or an advice, with the domains where it is followed and those where its value is removed
-pub data Look : Type 0 where
-  empty : Look
-  filled : List ℕ → Look
-  branch : List ℕ → List ℕ → Look
-
--- where each cell in a row has one value, a cell in no row takes its lowest
-abbrev pub seen : Choice → List ℕ → Look
-seen dead d = empty
-seen settled d = filled (lowests d)
-seen (advise x share) d = branch (followed d (x .cell) (x .value)) (removed d (x .cell) (x .value))
-
--- it settles and takes the advice; ties go to the lowest value
-unfoldable pub look : List Row → List ℕ → Look
-look rs d = let s = settle rs d .left in seen (choose toLowest rs s) s
-
--- ---- the search, with as many choices as it needs
-
--- no filling, or one; and the choices made
+-- no filling, or one; and how many choices were followed
 pub data Found : Type 0 where
   nothing : ℕ → Found
   one : List ℕ → ℕ → Found
 
-abbrev pub made : Found → ℕ
-made (nothing m) = m
-made (one e m) = m
+abbrev pub followed : Found → ℕ
+followed (nothing m) = m
+followed (one e m) = m
 
 -- n choices more
 abbrev pub more : ℕ → Found → Found
@@ -72,24 +47,36 @@ abbrev pub orElse : Found → Found → Found
 orElse (nothing m) b = more m b
 orElse (one e m) b = one e m
 
--- following the advice is one choice; when that branch holds no filling, the advised value is removed; n is the most looks, one below another
+-- ---- the search, with as many choices as it needs
+
+-- c cut to v, and v removed from c
+abbrev pub cutTo : List ℕ → ℕ → ℕ → List ℕ
+cutTo d c v = set d c (2 ^ v)
+
+abbrev pub removed : List ℕ → ℕ → ℕ → List ℕ
+removed d c v = set d c (getD d c 0 - 2 ^ v)
+
+-- It settles. Dead is no filling here. Settled is a filling, in which a cell in no row takes its lowest value. Advise is one choice: the advice is
+-- followed, and when that branch holds no filling the advised value is removed at that level. n is the most settlings, one below another.
 unfoldable pub searchIn : ℕ → List Row → List ℕ → Found
 searchIn zero rs d = nothing 0
-searchIn (suc n) rs d = elim (look rs d) [
-  | empty ↦ nothing 0
-  | filled e ↦ one e 0
-  | branch a b ↦ more 1 (orElse (searchIn n rs a) (searchIn n rs b))
-]
+searchIn (suc n) rs d =
+    let s = settle rs d .left in
+    elim (choose toLowest rs s) [
+      | dead ↦ nothing 0
+      | settled ↦ one (lowests s) 0
+      | advise x share ↦ more 1 (orElse (searchIn n rs (cutTo s (x .cell) (x .value))) (searchIn n rs (removed s (x .cell) (x .value))))
+    ]
 
--- each branch lists fewer values, so one more look than the values listed are enough
+-- each branch lists fewer values, so one more than the values listed are enough: `never-used-up`
 unfoldable pub searched : List Row → List ℕ → Found
 searched rs d = searchIn (suc (size d)) rs d
 
--- the choices that this search needs
+-- what this search needs: the choices that it follows
 unfoldable pub needed : List Row → List ℕ → ℕ
-needed rs d = made (searched rs d)
+needed rs d = followed (searched rs d)
 
--- ---- the search with n choices allowed
+-- ---- the search with n choices given
 
 pub data Ending : Type 0 where
   solved : List ℕ → Ending
@@ -100,12 +87,12 @@ abbrev pub ending : Found → Ending
 ending (nothing m) = none
 ending (one e m) = solved e
 
--- what it found, where the choices suffice; and the choices that remain
+-- Spent where fewer were given than it needs, else what it found; and the choices left
 unfoldable pub ends : ℕ → Found → Ending
-ends n o = cond (leb (made o) n) (ending o) spent
+ends n o = cond (ltb n (followed o)) spent (ending o)
 
-unfoldable pub remain : ℕ → Found → ℕ
-remain n o = n - made o
+unfoldable pub choicesLeft : ℕ → Found → ℕ
+choicesLeft n o = n - followed o
 
 -- ---- boards that are searched
 

@@ -13,13 +13,13 @@ use Rattle.counting.specs.Counting.{lists, size, NoNewValue}
 use Rattle.counting.specs.Domains.{empty-only}
 use Rattle.counting.specs.Counts.{count-total}
 use Rattle.counting.specs.Fillings.{count→good, total-grows}
-use Rattle.settling.specs.Settling.{Row, _∈_, Names, Domains, Accepted, gather, rowTotal, rowCount, RowFilling, visit, UntilIdle, settle, Consistent, Largest, BoardFilling, Stricter}
-use Rattle.settling.specs.Families.{within-self, within-trans, within-both, filling-within, size-grows}
+use Rattle.settling.specs.Settling.{Row, _∈_, Loose, Domains, Accepted, gather, rowTotal, rowCount, RowFilling, visit, UntilIdle, settle, Consistent, Largest, BoardFilling, Stricter}
+use Rattle.settling.specs.Families.{within-self, within-trans, within-both, size-grows}
 use Rattle.settling.specs.Cells.{gather-length, gather-within}
 use Rattle.settling.specs.Visits.{visit→count, visit-domains}
 use Rattle.settling.specs.Passes.{AllOnce}
 use Rattle.settling.specs.Settles.{settled-by, settle-until, settle-out, settle-largest, settle-domains, settle-falls}
-use Rattle.settling.specs.Fillings.{cut, cut-within, cut-consistent, cut-filling}
+use Rattle.settling.specs.Fillings.{board-filling-within, cut, cut-within, cut-consistent, cut-filling}
 use Rattle.settling.specs.Tighter.{tighter-supported}
 
 -- a row with total 0 has no count above zero
@@ -66,8 +66,7 @@ module _ (rs : List Row) (d : List ℕ) (board : Accepted rs d) where
       cut-filling rs d f board g (settle rs d .left) (largest-family .largest (cut d f) (cut-within d f) (cut-consistent rs d f board g))
 
   pub no-filling-new : (f : List ℕ) → BoardFilling rs (settle rs d .left) f → BoardFilling rs d f
-  no-filling-new f g =
-      record { filling = filling-within (settle rs d .left) d (largest-family .within) f (g .filling); is-good = g .is-good }
+  no-filling-new f g = board-filling-within rs (settle rs d .left) d f (largest-family .within) g
 
   -- ---- Order
 
@@ -121,7 +120,7 @@ module _ (rs : List Row) (d : List ℕ) (board : Accepted rs d) where
         dead-row (omega arith)
 
   -- A cell in no row keeps its domain.
-  pub loose-cell : (c : ℕ) → ((r : Row) → r ∈ rs → Names (r .cells) c → ⊥) → getD (settle rs d .left) c 0 ≡ getD d c 0
+  pub loose-cell : (c : ℕ) → Loose rs c → getD (settle rs d .left) c 0 ≡ getD d c 0
   loose-cell c h = settle-out rs c h d
 
   -- ---- Settling again

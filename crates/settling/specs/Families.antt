@@ -1,10 +1,11 @@
 -- Families of domains: one within another, the same both ways, and how many values they list. Assumes nothing.
 use mathlib.Core.Path.{_≡_, refl, sym, _∙_}
 use mathlib.Core.List.{List, [], _∷_}
-use Prim.Native.Nat.{ℕ, zero, suc, _*_, _≤_, _<_}
+use Prim.Native.Nat.{ℕ, zero, suc, _*_, _^_, _≤_, _<_}
+use native.Mathlib.Decide.{ℕ-discrete}
 use native.Mathlib.Omega.{arith}
-use lib.ListN.{length, getD}
-use lib.Seq.{ext-getD}
+use lib.ListN.{length, getD, set}
+use lib.Seq.{getD-set-same, getD-set-other, ext-getD}
 use Rattle.sizes.specs.Sizes.{values}
 use Rattle.counting.specs.Counting.{lists, size, Filling, NoNewValue}
 use Rattle.counting.specs.Domains.{_⇒_, both, same-domain, listed-le, ones-most, ones-tight}
@@ -21,6 +22,14 @@ within-trans h k = record { cells = h .cells ∙ k .cells; values-there = λ c v
 pub within-both : (d e : List ℕ) → Domains d → Domains e → NoNewValue d e → NoNewValue e d → d ≡ e
 within-both d e hd he h k =
     ext-getD 0 d e (h .cells) (λ c l. same-domain _ _ (hd c) (he c) (λ v m. both _ _ (h .values-there c v m) (k .values-there c v m)))
+
+-- a domain put in another's place
+pub set-domains : (d : List ℕ) (c x : ℕ) → c < length d → x < 2 ^ values → Domains d → Domains (set d c x)
+set-domains d c x l s h p = go (ℕ-discrete p c)
+  where
+    go : Dec (p ≡ c) → getD (set d c x) p 0 < 2 ^ values
+    go (yes e) = rw (e, getD-set-same d c x 0 l) s
+    go (no n) = rw (getD-set-other d c p x 0 n) (h p)
 
 -- a filling made from the one within is one from the other
 pub filling-within : (d e : List ℕ) → NoNewValue d e → (f : List ℕ) → Filling d f → Filling e f

@@ -1,12 +1,15 @@
--- A filling of the board, as a family of one value for each cell: it is consistent, so it is within every largest family. Assumes nothing.
+-- Fillings of the board from domains within others; and a filling as a family of one value for each cell: it is consistent, so it is within every
+-- largest family. Assumes nothing.
 use mathlib.Core.Path.{_≡_, refl, sym, ap, _∙_}
 use mathlib.Core.Bool.{true, _&&_}
 use mathlib.Core.List.{List}
 use Prim.Native.Nat.{ℕ, _<_}
+use native.Mathlib.Decide.{ℕ-discrete}
 use native.Mathlib.Omega.{arith}
 use borrow.Author.Tests.{eqb-true, eq-eqb}
 use lib.Dec.{eqb}
-use lib.ListN.{length, getD}
+use lib.ListN.{length, getD, set, length-set}
+use lib.Seq.{getD-set-same, getD-set-other}
 use Rattle.sizes.specs.Sizes.{values}
 use Rattle.listing.specs.Listing.{only, byPlace}
 use Rattle.listing.specs.Sums.{and-left, and-right}
@@ -18,6 +21,24 @@ use Rattle.counting.specs.Fillings.{good→count}
 use Rattle.settling.specs.Settling.{Row, _∈_, Accepted, gather, RowFilling, Consistent, BoardFilling}
 use Rattle.settling.specs.Cells.{gather-length, gather-at}
 use Rattle.settling.specs.Visits.{listed-inside}
+use Rattle.settling.specs.Families.{filling-within}
+
+-- a filling made from domains within others is one of the others
+pub board-filling-within : (rs : List Row) (d e f : List ℕ) → NoNewValue d e → BoardFilling rs d f → BoardFilling rs e f
+board-filling-within rs d e f w g = record { filling = filling-within d e w f (g .filling); is-good = g .is-good }
+
+-- one whose value at c the domain x lists is a filling with x there
+pub filling-set : (rs : List Row) (d f : List ℕ) (c x : ℕ) → c < length d → BoardFilling rs d f → lists x (getD f c 0) ≡ true → BoardFilling rs (set d c x) f
+filling-set rs d f c x l g q =
+    record {
+      filling = filling-by (set d c x) f (filling-length d f (g .filling) ∙ sym (length-set d c x))
+          (λ p k. let h = filling-at d f (g .filling) p (omega (arith, length-set d c x)) in (h .0, go p (ℕ-discrete p c) (h .1)));
+      is-good = g .is-good;
+    }
+  where
+    go : (p : ℕ) → Dec (p ≡ c) → lists (getD d p 0) (getD f p 0) ≡ true → lists (getD (set d c x) p 0) (getD f p 0) ≡ true
+    go p (yes e) h = rw (e, getD-set-same d c x 0 l) q
+    go p (no n) h = rw (getD-set-other d c p x 0 n) h
 
 -- the domains d cut to the values f
 pub cut : List ℕ → List ℕ → List ℕ

@@ -28,6 +28,10 @@ r ∈ rs = List·Memᴰ r rs
 abbrev pub Names : List ℕ → ℕ → Type 0
 Names cs c = (p : ℕ) × (p < length cs) × (getD cs p 0 ≡ c)
 
+-- c is a cell in no row
+abbrev pub Loose : List Row → ℕ → Type 0
+Loose rs c = (r : Row) → r ∈ rs → Names (r .cells) c → ⊥
+
 -- a board of n cells has those named, and none is named twice
 abbrev pub Inside : ℕ → List ℕ → Type 0
 Inside n cs = (p : ℕ) → p < length cs → getD cs p 0 < n

@@ -19,7 +19,7 @@ abbrev Inv-loop : tie.InvT-loop
 Inv-loop board domains₀ stack₀ forward₀ backward₀ h₀ held₀ domains stack forward backward h held =
     UnderWay board h held domains stack forward backward
     × Same (held .left) (searchAll (rowsOf board) (trying h domains stack)) (held₀ .left) (searched (rowsOf board) domains₀)
-    × (held .left + held .made ≡ held₀ .left + held₀ .made)
+    × (held .left + held .followed ≡ held₀ .left + held₀ .followed)
     × (length stack ≡ length stack₀)
     × (length forward ≡ length forward₀)
     × (length backward ≡ length backward₀)

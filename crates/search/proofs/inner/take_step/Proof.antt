@@ -7,7 +7,7 @@ use lib.ListN.{length}
 use Rattle.settling.specs.Boards.{rowsOf}
 use Rattle.settling.specs.Settles.{settle-length}
 use Rattle.choose.specs.Advice.{told}
-use Rattle.searching.specs.Searching.{lowests, followed, removed}
+use Rattle.searching.specs.Searching.{lowests, cutTo, removed}
 use Rattle.search.specs.Stack.{level, saved}
 use Rattle.search.specs.StackLaws.{levels-most, step-none, step-solved, step-spent, may-save, step-on, may-restore, step-back, none-left, one-left}
 use borrow.Author.Needs.{needs}
@@ -33,7 +33,7 @@ returns : tie.Need-returns
 returns c =
     let l = c .before .before .before .before .before .before .before .before .before in
     let s = l .before .before .before .before .before .before .before .before in
-    (step-none (s .args .board) (s .args .h) (s .args .purse) (s .args .domains .now) (s .args .stack .now) (s .args .forward .now) (s .args .backward .now) (s .pre) _ _ refl (ap told (sym (c .before .enum-told .given .1)) ∙ l .look .ensures .1 .0) (c .if1 .taken), l .look .ensures .1 .1)
+    (step-none (s .pre) _ _ refl (ap told (sym (c .before .enum-told .given .1)) ∙ l .look .ensures .1 .0) (c .if1 .taken), l .look .ensures .1 .1)
 
 sub-g : tie.Need-sub-g
 sub-g c = search needs
@@ -42,13 +42,13 @@ restore-requires : tie.Need-restore-requires
 restore-requires c κs =
     let l = c .before .before .before .before .before .before .before .before .before .before .before in
     let s = l .before .before .before .before .before .before .before .before in
-    may-restore (s .args .board) (s .args .h) (s .args .purse) (s .args .domains .now) (s .args .stack .now) (s .args .forward .now) (s .args .backward .now) (s .pre) _ (l .look .ensures .0) (c .before .before .if1 .left)
+    may-restore (s .pre) _ (l .look .ensures .0) (c .before .before .if1 .left)
 
 enum-told-2 : tie.Need-enum-told-2
 enum-told-2 c = search needs
 
-cut-all-requires : tie.Need-cut-all-requires
-cut-all-requires c κs = search needs
+cut-all-to-lowest-requires : tie.Need-cut-all-to-lowest-requires
+cut-all-to-lowest-requires c κs = search needs
 
 enum-known-cell : tie.Need-enum-known-cell
 enum-known-cell c = search needs
@@ -70,19 +70,19 @@ returns-2 c =
     let l = c .before .before .before .before .before .before .before .before .before .before .before .before in
     let s = l .before .before .before .before .before .before .before .before in
     let k = c .before .before .before .before .cell .given in
-    (step-spent (s .args .board) (s .args .h) (s .args .purse) (s .args .domains .now) (s .args .stack .now) (s .args .forward .now) (s .args .backward .now) (s .pre) _ _ refl _ _ (ap told (sym (k .1)) ∙ l .look .ensures .1 .0) (none-left (s .args .purse) _ (c .before .before .after-choice .ensures .1) (c .if2 .taken)), l .look .ensures .1 .1)
+    (step-spent (s .pre) _ _ refl _ _ (ap told (sym (k .1)) ∙ l .look .ensures .1 .0) (none-left (s .args .purse) _ (c .before .before .after-choice .ensures .1) (c .if2 .taken)), l .look .ensures .1 .1)
 
 save-requires : tie.Need-save-requires
 save-requires c κs =
     let l = c .before .before .before .before .before .before .before .before .before .before .before .before .before .before in
     let s = l .before .before .before .before .before .before .before .before in
     let k = c .before .before .before .before .before .before .cell .given in
-    may-save (s .args .board) (s .args .h) (s .args .purse) (s .args .domains .now) (s .args .stack .now) (s .args .forward .now) (s .args .backward .now) (s .pre) _ _ (ap told (sym (k .1)) ∙ l .look .ensures .1 .0) _ (l .look .ensures .0)
+    may-save (s .pre) _ _ (ap told (sym (k .1)) ∙ l .look .ensures .1 .0) _ (l .look .ensures .0)
 
 add-t39 : tie.Need-add-t39
 add-t39 c =
     let s = c .before .before .before .before .before .before .before .before .before .before .before .before .before .before .before .before .before .before .before .before .before .before .before .before .before .before .before .before in
-    record { fits = omega (arith, levels-most (s .args .board) (s .args .h) (s .args .purse) (s .args .domains .now) (s .args .stack .now) (s .args .forward .now) (s .args .backward .now) (s .pre)) }
+    record { fits = omega (arith, levels-most (s .pre)) }
 
 same-length-7 : tie.Need-same-length-7
 same-length-7 c = search needs
@@ -101,7 +101,7 @@ returns-3 c =
     let l = c .before .before .before .before .before .before .before .before .before .before .before .before .before .before in
     let s = l .before .before .before .before .before .before .before .before in
     let here = settle-length (rowsOf (s .args .board)) (s .args .domains .now) in (
-      step-back (s .args .board) (s .args .purse) (s .args .domains .now) (s .args .stack .now) (s .args .forward .now) (s .args .backward .now) (s .args .h) (s .pre) _ _ refl (ap told (sym (c .before .before .before .before .before .before .enum-told .given .1)) ∙ l .look .ensures .1 .0) (c .before .before .before .before .before .if1 .left)
+      step-back (s .args .h) (s .pre) _ _ refl (ap told (sym (c .before .before .before .before .before .before .enum-told .given .1)) ∙ l .look .ensures .1 .0) (c .before .before .before .before .before .if1 .left)
           (c .before .before .restore .ensures ∙ ap (λ (n : ℕ). level n (s .args .h - 1) (s .args .stack .now)) (ap length (l .look .ensures .0) ∙ here)),
       l .look .ensures .1 .1,
     )
@@ -119,7 +119,7 @@ returns-4 : tie.Need-returns-4
 returns-4 c =
     let l = c .before .before .before .before .before .before .before .before .before .before .before .before in
     let s = l .before .before .before .before .before .before .before .before in
-    (step-solved (s .args .board) (s .args .h) (s .args .purse) (s .args .domains .now) (s .args .stack .now) (s .args .forward .now) (s .args .backward .now) (s .pre) _ _ refl (ap told (sym (c .before .before .before .before .enum-told2 .given .1)) ∙ l .look .ensures .1 .0) (c .before .before .cut-all .ensures ∙ ap lowests (l .look .ensures .0)), l .look .ensures .1 .1)
+    (step-solved (s .pre) _ _ refl (ap told (sym (c .before .before .before .before .enum-told2 .given .1)) ∙ l .look .ensures .1 .0) (c .before .before .cut-all-to-lowest .ensures ∙ ap lowests (l .look .ensures .0)), l .look .ensures .1 .1)
 
 same-length-14 : tie.Need-same-length-14
 same-length-14 c = search needs
@@ -141,8 +141,8 @@ returns-5 c =
     let w = c .before .before .before .before .before .save .ensures in
     let p = c .before .before .before .before .before .before .before .before .before .before .after-choice .ensures in
     let o = one-left (s .args .purse) _ _ (p .1) (c .before .before .before .before .before .before .before .before .if2 .left) (p .0) in (
-      step-on (s .args .board) (s .args .h) (s .args .purse) (s .args .domains .now) (s .args .stack .now) (s .args .forward .now) (s .args .backward .now) (s .pre) _ _ (ap told (sym (k .1)) ∙ l .look .ensures .1 .0) _ _ _ (o .0) (o .1) (o .2)
-          (w .0 ∙ ap (λ (d : List ℕ). followed d (k .0 .0) (k .0 .1 .0)) (l .look .ensures .0))
+      step-on (s .pre) _ _ (ap told (sym (k .1)) ∙ l .look .ensures .1 .0) _ _ _ (o .0) (o .1) (o .2)
+          (w .0 ∙ ap (λ (d : List ℕ). cutTo d (k .0 .0) (k .0 .1 .0)) (l .look .ensures .0))
           (w .1 ∙ ap (λ (d : List ℕ). saved (s .args .stack .now) (s .args .h) (removed d (k .0 .0) (k .0 .1 .0))) (l .look .ensures .0)),
       l .look .ensures .1 .1,
     )
@@ -160,7 +160,7 @@ take-step-spec =
     sub-g
     restore-requires
     enum-told-2
-    cut-all-requires
+    cut-all-to-lowest-requires
     enum-known-cell
     after-choice-requires
     same-length-4

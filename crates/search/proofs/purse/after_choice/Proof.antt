@@ -61,7 +61,7 @@ abbrev stayed : Stays (f.ended .signature .params) (f.ended .kept)
 stayed = (stay-none (λ _. T.the-row) yes, tt)
 
 abbrev Pre : Purse → Type 0
-Pre h = h .left + h .made < 2 ^ 64
+Pre h = h .left + h .followed < 2 ^ 64
 
 abbrev Said : Purse → Bool → Purse → Type 0
 Said w t h = (w ≡ taken h) × (t ≡ oneLeft h)

@@ -55,7 +55,7 @@ abbrev stayed : Stays (f.ended .signature .params) (f.ended .kept)
 stayed = (stay-ref (0 ∷ []) tt (plain (λ _. T.the-row)), tt)
 
 abbrev Pre : Purse → Type 0
-Pre h = h .left + h .made < 2 ^ 64
+Pre h = h .left + h .followed < 2 ^ 64
 
 -- a test that came out
 came-true : (t : Bool) → Holds t → t ≡ true
@@ -70,7 +70,7 @@ came-false false n = refl
 none-left : (h : Purse) → Holds (eqb (h .left) 0) → (h ≡ taken h) × (false ≡ oneLeft h)
 none-left h y = let e = came-true (eqb (h .left) 0) y in (rw e, rw e)
 
-one-left : (h : Purse) → Holds (not (eqb (h .left) 0)) → (record { left = h .left - 1; made = h .made + 1 } ≡ taken h) × (true ≡ oneLeft h)
+one-left : (h : Purse) → Holds (not (eqb (h .left) 0)) → (record { left = h .left - 1; followed = h .followed + 1 } ≡ taken h) × (true ≡ oneLeft h)
 one-left h n = let e = came-false (eqb (h .left) 0) n in (rw e, rw e)
 
 one-less : (h : Purse) → Holds (not (eqb (h .left) 0)) → 1 ≤ h .left
@@ -81,7 +81,7 @@ module _ {M : Type 1} (𝓤 : URA M) (H : Heap 𝓤) (A : Atoms 𝓤) (W : Given
   x = (record { ptr = (b, o); name = γ; now = h }, tt)
 
   abbrev h′ : Purse
-  h′ = record { left = h .left - 1; made = h .made + 1 }
+  h′ = record { left = h .left - 1; followed = h .followed + 1 }
 
   abbrev at : List Val × Unit {0}
   at = (vptr b o ∷ [], tt)
@@ -89,7 +89,7 @@ module _ {M : Type 1} (𝓤 : URA M) (H : Heap 𝓤) (A : Atoms 𝓤) (W : Given
   less : h .left - 1 < 2 ^ 64
   less = omega (arith, pre)
 
-  more : 1 ≤ h .left → h .made + 1 < 2 ^ 64
+  more : 1 ≤ h .left → h .followed + 1 < 2 ^ 64
   more l = omega (arith, pre)
 
   -- what closing the borrow asks

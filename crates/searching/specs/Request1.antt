@@ -1,19 +1,16 @@
--- Request R-1's promises of the search, for every accepted board whose rows have cells. Assumes nothing.
+-- Request R-1, whole: what is promised of the search, for every accepted board whose rows have cells. Assumes nothing.
 use mathlib.Core.Path.{_≡_, refl, sym, ap, _∙_}
-use mathlib.Core.Bool.{Bool, true, false}
 use mathlib.Core.Logic.{⊎-elim}
 use mathlib.Core.List.{List}
-use Prim.Native.Nat.{ℕ, _≤_, _<_, _^_}
+use Prim.Native.Nat.{ℕ, _+_, _≤_, _<_, _^_}
 use native.Mathlib.Omega.{arith}
-use lib.Dec.{leb}
-use borrow.Author.Tests.{leb-true, leb-false}
 use lib.ListN.{length, getD}
-use Rattle.settling.specs.Settling.{Row, BoardFilling}
-use Rattle.settling.specs.Families.{filling-within}
 use Rattle.counting.specs.Counting.{NoNewValue}
-use Rattle.searching.specs.Searching.{lowest, ShowsFilling, look, branch, Found, nothing, one, made, more, orElse, searched, needed, Ending, solved, none, spent, ending, ends, Playable}
-use Rattle.searching.specs.Looks.{Loose, empty-none, filled-shows, filled-loose, branch-branches}
-use Rattle.searching.specs.Searches.{ends-enough, ends-short, spent-short, search-rule}
+use Rattle.settling.specs.Settling.{Row, Loose, BoardFilling}
+use Rattle.settling.specs.Fillings.{board-filling-within}
+use Rattle.searching.specs.Searching.{lowest, ShowsFilling, Found, nothing, one, followed, more, orElse, searched, needed, Ending, solved, none, spent, ending, ends, choicesLeft, Playable}
+use Rattle.searching.specs.Looks.{look, branch, empty-none, filled-shows, filled-loose, branch-branches}
+use Rattle.searching.specs.Searches.{ends-enough, ends-short, enough-or-few, spent-short, search-rule}
 
 -- what an ending says of the fillings of a board
 abbrev Says : List Row → List ℕ → Ending → Type 0
@@ -31,7 +28,7 @@ shows-within : (rs : List Row) (d a e : List ℕ) → NoNewValue a d → ShowsFi
 shows-within rs d a e w s =
     record {
       taken = s .taken;
-      filling = record { filling = filling-within a d w (s .taken) (s .filling .filling); is-good = s .filling .is-good };
+      filling = board-filling-within rs a d (s .taken) w (s .filling);
       shown = s .shown;
     }
 
@@ -47,11 +44,11 @@ module _ (rs : List Row) (d : List ℕ) (ok : Playable rs d) where
       either d a b (one f m) y ok e p q = shows-within rs d a f (branch-branches rs d ok a b e .first-within) p
 
   says : (n : ℕ) → Says rs d (ends n (searched rs d))
-  says n = go (leb (made (searched rs d)) n) refl
-    where
-      go : (t : Bool) → leb (made (searched rs d)) n ≡ t → Says rs d (ends n (searched rs d))
-      go true e = rw (ends-enough n (searched rs d) (leb-true _ _ e)) said
-      go false e = rw (ends-short n (searched rs d) (leb-false _ _ e)) tt
+  says n =
+      ⊎-elim
+      (λ h. rw (ends-enough n (searched rs d) h) said)
+      (λ h. rw (ends-short n (searched rs d) h) tt)
+      (enough-or-few n (searched rs d))
 
   -- ---- what an answer means, with any number of choices
 
@@ -97,16 +94,26 @@ module _ (rs : List Row) (d : List ℕ) (ok : Playable rs d) where
   -- ---- Raising the number never alters a Solved or a None.
 
   pub raising-keeps : (n m : ℕ) → n ≤ m → (ends n (searched rs d) ≡ spent → ⊥) → ends m (searched rs d) ≡ ends n (searched rs d)
-  raising-keeps n m h k = go (leb (made (searched rs d)) n) refl
-    where
-      go : (t : Bool) → leb (made (searched rs d)) n ≡ t → ends m (searched rs d) ≡ ends n (searched rs d)
-      go true e = let l = leb-true _ _ e in ends-enough m (searched rs d) (omega arith) ∙ sym (ends-enough n (searched rs d) l)
-      go false e = absurd (k (ends-short n (searched rs d) (leb-false _ _ e)))
+  raising-keeps n m h k =
+      ⊎-elim
+      (λ l. ends-enough m (searched rs d) (omega arith) ∙ sym (ends-enough n (searched rs d) l))
+      (λ l. absurd (k (ends-short n (searched rs d) l)))
+      (enough-or-few n (searched rs d))
+
+  -- ---- The number left is the number given less what the search needs, and 0 after Spent.
+
+  pub left-of-given : (n : ℕ) → (ends n (searched rs d) ≡ spent → ⊥) → choicesLeft n (searched rs d) + needed rs d ≡ n
+  unfolding choicesLeft needed
+  left-of-given n k = ⊎-elim (λ l. omega arith) (λ l. absurd (k (ends-short n (searched rs d) l))) (enough-or-few n (searched rs d))
+
+  pub none-left : (n : ℕ) → ends n (searched rs d) ≡ spent → choicesLeft n (searched rs d) ≡ 0
+  unfolding choicesLeft needed
+  none-left n q = let h = spent-needs n q in omega arith
 
   -- ---- A cell in no row takes its lowest value.
 
   pub loose-lowest : (n : ℕ) (e : List ℕ) → ends n (searched rs d) ≡ solved e → (c : ℕ) → c < length d → Loose rs c → getD e c 0 ≡ 2 ^ lowest (getD d c 0)
-  loose-lowest n e q c l free = go (leb (made (searched rs d)) n) refl
+  loose-lowest n e q c l free = ⊎-elim enough few (enough-or-few n (searched rs d))
     where
       either : (d a b : List ℕ) (x y : Found) → Playable rs d → look rs d ≡ branch a b → Lowest c a (ending x) → Lowest c b (ending y)
           → Lowest c d (ending (more 1 (orElse x y)))
@@ -121,6 +128,8 @@ module _ (rs : List Row) (d : List ℕ) (ok : Playable rs d) where
       found : Lowest c d (ending (searched rs d))
       found = search-rule rs (λ d o. Lowest c d (ending o)) (λ d ok e. tt) (λ d f ok e l. filled-loose rs d ok f e c l free) either d ok
 
-      go : (t : Bool) → leb (made (searched rs d)) n ≡ t → getD e c 0 ≡ 2 ^ lowest (getD d c 0)
-      go true k = let h : Lowest c d (solved e) = rw (sym (ends-enough n (searched rs d) (leb-true _ _ k)) ∙ q) at found in h l
-      go false k = let z : _≡_ {A = ℕ} 0 1 = cc (ends-short n (searched rs d) (leb-false _ _ k)) in absurd (omega arith)
+      enough : followed (searched rs d) ≤ n → getD e c 0 ≡ 2 ^ lowest (getD d c 0)
+      enough k = let h : Lowest c d (solved e) = rw (sym (ends-enough n (searched rs d) k) ∙ q) at found in h l
+
+      few : n < followed (searched rs d) → getD e c 0 ≡ 2 ^ lowest (getD d c 0)
+      few k = let z : _≡_ {A = ℕ} 0 1 = cc (ends-short n (searched rs d) k) in absurd (omega arith)

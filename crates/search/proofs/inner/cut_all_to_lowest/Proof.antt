@@ -1,4 +1,4 @@
--- `inner::cut_all` meets its contract: the loop has cut the domains passed. Assumes nothing.
+-- `inner::cut_all_to_lowest` meets its contract: the loop has cut the domains passed. Assumes nothing.
 use mathlib.Core.Path.{_≡_, refl, ap, _∙_}
 use Prim.Native.Nat.{ℕ, _-_, _^_, _≤_}
 use native.Mathlib.Omega.{arith}
@@ -8,8 +8,8 @@ use Rattle.listing.specs.Writing.{written-none, written-more}
 use Rattle.searching.specs.Searching.{lowest}
 use Rattle.search.specs.StackLaws.{cut-end}
 use borrow.Author.Needs.{needs}
-use Rattle.search.proofs.inner.cut_all.Statement.{statement}
-use Rattle.search.proofs.inner.cut_all.Tie as tie
+use Rattle.search.proofs.inner.cut_all_to_lowest.Statement.{statement}
+use Rattle.search.proofs.inner.cut_all_to_lowest.Tie as tie
 
 abbrev Inv-loop : tie.InvT-loop
 Inv-loop domains₀ i₀ domains i =
@@ -27,8 +27,8 @@ mul-domain c = search needs
 slice-read-domain : tie.Need-slice-read-domain Inv-loop μ-loop
 slice-read-domain c = search needs
 
-cut-requires : tie.Need-cut-requires Inv-loop μ-loop
-cut-requires c κs = search needs
+cut-to-lowest-requires : tie.Need-cut-to-lowest-requires Inv-loop μ-loop
+cut-to-lowest-requires c κs = search needs
 
 mul-domains : tie.Need-mul-domains Inv-loop μ-loop
 mul-domains c = search needs
@@ -47,7 +47,7 @@ loop-again c =
     let l = c .before .before .before .loop in (
       simp length-set (omega arith),
       simp length-set (l .inv .1),
-      written-more _ _ (l .domains) 0 (l .i) _ (omega arith) (omega arith) (c .cut .ensures ∙ ap (λ (x : ℕ). 2 ^ lowest x) (l .inv .2 .late (l .i) (omega arith))) (l .inv .2),
+      written-more _ _ (l .domains) 0 (l .i) _ (omega arith) (omega arith) (c .cut-to-lowest .ensures ∙ ap (λ (x : ℕ). 2 ^ lowest x) (l .inv .2 .late (l .i) (omega arith))) (l .inv .2),
     )
 
 same-length : tie.Need-same-length Inv-loop μ-loop
@@ -58,8 +58,8 @@ returns c =
     let l = c .before .loop in
     cut-end _ (l .domains) (l .i) (omega arith) (omega arith) (l .inv .1) (l .inv .2)
 
-pub cut-all-spec : {M : Type 1} → statement M
-cut-all-spec =
+pub cut-all-to-lowest-spec : {M : Type 1} → statement M
+cut-all-to-lowest-spec =
     tie.close
     (tie.spec
     Inv-loop
@@ -67,7 +67,7 @@ cut-all-spec =
     loop-holds
     mul-domain
     slice-read-domain
-    cut-requires
+    cut-to-lowest-requires
     mul-domains
     slice-write-domains
     add-i

@@ -1,4 +1,4 @@
--- `inner::cut` meets its contract: no value passed is listed, so the first that is is the lowest. Assumes nothing.
+-- `inner::cut_to_lowest` meets its contract: no value passed is listed, so the first that is is the lowest. Assumes nothing.
 use mathlib.Core.Path.{_≡_, sym, ap, _∙_}
 use mathlib.Core.Bool.{true}
 use Prim.Native.Nat.{ℕ, _+_, _-_, _/_, _%_, _^_, _≤_, _<_}
@@ -8,9 +8,9 @@ use borrow.Author.Needs.{needs}
 use borrow.Author.Tests.{eqb-true, eq-eqb}
 use Rattle.sizes.specs.Sizes.{values}
 use Rattle.counting.specs.Counting.{lists}
-use Rattle.searching.specs.Values.{lowest-first, lowest-none}
-use Rattle.search.proofs.inner.cut.Statement.{statement}
-use Rattle.search.proofs.inner.cut.Tie as tie
+use Rattle.searching.specs.Lowest.{lowest-first, lowest-none}
+use Rattle.search.proofs.inner.cut_to_lowest.Statement.{statement}
+use Rattle.search.proofs.inner.cut_to_lowest.Tie as tie
 
 abbrev NoneBelow : ℕ → ℕ → Type 0
 NoneBelow domain v = (u : ℕ) → u < v → lists domain u ≡ true → ⊥
@@ -61,8 +61,8 @@ returns-2 c =
     let l = c .before .loop in
     ap (λ (v : ℕ). 2 ^ v) (sym (lowest-none (c .before .before .args .domain) (λ u k. l .inv .1 u (omega arith))))
 
-pub cut-spec : {M : Type 1} → statement M
-cut-spec =
+pub cut-to-lowest-spec : {M : Type 1} → statement M
+cut-to-lowest-spec =
     tie.close
     (tie.spec
     Inv-loop

@@ -1,26 +1,21 @@
--- A domain cut to one of its values, and without it; its lowest value; and how many values are then listed. Assumes nothing.
+-- A domain cut to one of its values, and without it; and one domain of many put in another's place. Assumes nothing.
 use mathlib.Core.Path.{_≡_, refl, sym, ap, _∙_}
 use mathlib.Core.Bool.{Bool, true, false, not, _&&_}
-use mathlib.Core.List.{List, [], _∷_, _++_, List·Memᴰ, List·Memᴰ·head}
+use mathlib.Core.List.{List, [], _∷_}
 use Prim.Native.Nat.{ℕ, zero, suc, _+_, _-_, _^_, _≤_, _<_}
 use native.Mathlib.Nat.{le-of-suc-le-suc}
 use native.Mathlib.Decide.{ℕ-discrete}
 use native.Mathlib.Omega.{arith}
 use borrow.Author.Tests.{eq-eqb, ne-eqb}
 use lib.Dec.{eqb}
-use lib.ListN.{length, getD, set, length-set, List·getD-append}
+use lib.ListN.{length, getD, set, length-set}
 use lib.Seq.{getD-set-same, getD-set-other}
 use Rattle.told.specs.Told.{when}
 use Rattle.sizes.specs.Sizes.{values}
-use Rattle.listing.specs.Listing.{keep, only, howMany, below, sumOver}
+use Rattle.listing.specs.Listing.{only, howMany, sumOver}
 use Rattle.listing.specs.Sums.{and-left, when-both, when-swap, sum-only, sum-cong, sum-cong-below, sum-plus, pick, howMany-sum}
-use Rattle.listing.specs.Members.{in-below, below-small, only-in, in-only, at-in, in-at}
 use Rattle.counting.specs.Counting.{lists, listed, domainOf, size, NoNewValue}
 use Rattle.counting.specs.Domains.{_⇒_, pick-listed, listed-ones, same-domain, domain-lt, lists-only, ones-apart}
-use Rattle.settling.specs.Settling.{Domains}
-use Rattle.choosing.specs.CandidateLaws.{listed-in, in-listed}
-use Rattle.choosing.specs.ChoiceLaws.{lists-one}
-use Rattle.searching.specs.Searching.{lowest}
 
 -- ---- one domain and one of its values
 
@@ -102,73 +97,17 @@ module _ (e v : ℕ) (small : e < 2 ^ values) (fits : v < values) (there : lists
       let all = ones-apart e (λ u. eqb u v) in
       omega (arith, ap (λ (x : ℕ). length (listed x)) rest-is)
 
--- ---- the lowest value
-
-only-append : (p : ℕ → Bool) (xs ys : List ℕ) → only p (xs ++ ys) ≡ only p xs ++ only p ys
-only-append p [] ys = refl
-only-append p (x ∷ xs) ys = go (p x) (only-append p xs ys)
-  where
-    go : (t : Bool) → only p (xs ++ ys) ≡ only p xs ++ only p ys → keep t x (only p (xs ++ ys)) ≡ keep t x (only p xs) ++ only p ys
-    go true e = ap (λ (l : List ℕ). x ∷ l) e
-    go false e = e
-
-no-members : (xs : List ℕ) → ((x : ℕ) → List·Memᴰ x xs → ⊥) → xs ≡ []
-no-members [] h = refl
-no-members (x ∷ xs) h = absurd (h x (List·Memᴰ·head refl))
-
-module _ (e : ℕ) (small : e < 2 ^ values) (some : e ≡ 0 → ⊥) where
-  pub lowest-listed : (lowest e < values) × (lists e (lowest e) ≡ true)
-  unfolding lowest
-  lowest-listed = listed-in e (getD (listed e) 0 0) (at-in 0 (listed e) 0 (lists-one e small some))
-
--- the only value is the lowest
-pub only-lowest : (e v : ℕ) → length (listed e) ≡ 1 → v < values → lists e v ≡ true → v ≡ lowest e
-unfolding lowest
-only-lowest e v n l q =
-    let at = in-at 0 (listed e) v (in-listed e v l q) in
-    let z : at .0 ≡ 0 = omega (arith, at .1) in
-    sym (at .2) ∙ ap (λ (i : ℕ). getD (listed e) i 0) z
-
--- a listed value with none listed below it is the lowest
-first-of : (e v n : ℕ) → v < n → lists e v ≡ true → ((u : ℕ) → u < v → lists e u ≡ true → ⊥) → getD (only (lists e) (below n)) 0 0 ≡ v
-unfolding below
-first-of e v zero l q least = absurd (omega arith)
-first-of e v (suc n) l q least = rw (only-append (lists e) (below n) (n ∷ [])) (go (λ k. first-of e v n k q least) (ℕ-discrete v n))
-  where
-    go : (v < n → getD (only (lists e) (below n)) 0 0 ≡ v) → Dec (v ≡ n) → getD (only (lists e) (below n) ++ only (lists e) (n ∷ [])) 0 0 ≡ v
-    go r (yes m) =
-        let none : only (lists e) (below n) ≡ [] = no-members (only (lists e) (below n)) (λ u k. let w = only-in (lists e) (below n) u k in least u (omega (arith, below-small n u (w .1))) (w .0)) in
-        rw (none, ← m, q)
-    go r (no m) =
-        let some = in-at 0 (only (lists e) (below n)) v (in-only (lists e) (below n) v q (in-below n v (omega arith))) in
-        List·getD-append (only (lists e) (below n)) (only (lists e) (n ∷ [])) 0 0 (omega (arith, some .1)) ∙ r (omega arith)
-
-pub lowest-first : (e v : ℕ) → v < values → lists e v ≡ true → ((u : ℕ) → u < v → lists e u ≡ true → ⊥) → lowest e ≡ v
-unfolding lowest listed
-lowest-first e v l q least = first-of e v values l q least
-
-pub lowest-none : (e : ℕ) → ((u : ℕ) → u < values → lists e u ≡ true → ⊥) → lowest e ≡ 0
-unfolding lowest
-lowest-none e h = rw (no-members (listed e) (λ u k. let w = listed-in e u k in h u (w .0) (w .1)))
-
 -- ---- one domain of many
 
-module _ (d : List ℕ) (c x : ℕ) where
-  -- a new domain that lists nothing new
-  pub set-within : c < length d → ((u : ℕ) → u < values → lists x u ⇒ lists (getD d c 0) u) → NoNewValue (set d c x) d
-  set-within l h = record { cells = length-set d c x; values-there = λ p v k. go p v k (ℕ-discrete p c) }
-    where
-      go : (p v : ℕ) → v < values → Dec (p ≡ c) → lists (getD (set d c x) p 0) v ⇒ lists (getD d p 0) v
-      go p v k (yes e) q = rw e (h v k (rw (e, getD-set-same d c x 0 l) at q))
-      go p v k (no n) q = rw (getD-set-other d c p x 0 n) at q
+-- a new domain that lists nothing new
+pub set-within : (d : List ℕ) (c x : ℕ) → c < length d → ((u : ℕ) → u < values → lists x u ⇒ lists (getD d c 0) u) → NoNewValue (set d c x) d
+set-within d c x l h = record { cells = length-set d c x; values-there = λ p v k. go p v k (ℕ-discrete p c) }
+  where
+    go : (p v : ℕ) → v < values → Dec (p ≡ c) → lists (getD (set d c x) p 0) v ⇒ lists (getD d p 0) v
+    go p v k (yes e) q = rw e (h v k (rw (e, getD-set-same d c x 0 l) at q))
+    go p v k (no n) q = rw (getD-set-other d c p x 0 n) at q
 
-  pub set-domains : c < length d → x < 2 ^ values → Domains d → Domains (set d c x)
-  set-domains l s h p = go (ℕ-discrete p c)
-    where
-      go : Dec (p ≡ c) → getD (set d c x) p 0 < 2 ^ values
-      go (yes e) = rw (e, getD-set-same d c x 0 l) s
-      go (no n) = rw (getD-set-other d c p x 0 n) (h p)
-
+-- how many values are then listed
 pub size-set : (d : List ℕ) (c x : ℕ) → c < length d → size (set d c x) + length (listed (getD d c 0)) ≡ size d + length (listed x)
 unfolding size
 size-set [] c x l = absurd (omega arith)
