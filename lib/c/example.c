@@ -1,17 +1,21 @@
-/* A row and a board by the library, in document 01's examples. */
+/* A row, a board and a search by the library, in document 01's examples. */
 #include "tanglepunt.h"
 
 #include <inttypes.h>
 #include <stdio.h>
 
+/* Document 01's board of 36 bytes. */
+static const uint8_t file[] = {0x0E, 0, 0, 0, 0x0E, 0, 0, 0, 0x0E, 0, 0, 0, 2, 3, 0, 3, 0, 0,
+                               1,    1, 1, 2, 7,    0, 8, 0, 1,    1, 2, 2, 12, 0, 3, 2, 0x53, 0x4C};
 static uint64_t forward[TANGLEPUNT_TABLE], backward[TANGLEPUNT_TABLE];
+static uint32_t room[TANGLEPUNT_ROOM], stack[TANGLEPUNT_STACK];
 
 static void print_domain(uint32_t domain)
 {
     for (int value = 0; value < TANGLEPUNT_VALUES; value++)
         if (domain >> value & 1)
             printf(" %d", value);
-    printf("\n");
+    printf(domain ? "\n" : " NONE\n");
 }
 
 /* The Figure row: its total, the count of its first cell and value 1, and what striking leaves. */
@@ -35,12 +39,9 @@ static int show_row(void)
     return 0;
 }
 
-/* A board file, settled and advised on; then the same bytes without the last, which is refused. */
+/* The board file, settled and advised on; then the same bytes without the last, which is refused. */
 static int show_board(void)
 {
-    const uint8_t file[] = {0x0E, 0, 0, 0, 0x0E, 0, 0, 0, 0x0E, 0, 0, 0, 2, 3, 0, 3, 0, 0,
-                            1,    1, 1, 2, 7,    0, 8, 0, 1,    1, 2, 2, 12, 0, 3, 2, 0x53, 0x4C};
-    uint32_t room[TANGLEPUNT_ROOM];
     tanglepunt_counts counts = tanglepunt_checked_board_counts(file, sizeof file);
     tanglepunt_advice advice = tanglepunt_checked_advise(file, sizeof file, room, TANGLEPUNT_ROOM, forward,
                                                          TANGLEPUNT_TABLE, backward, TANGLEPUNT_TABLE);
@@ -60,7 +61,27 @@ static int show_board(void)
     return 0;
 }
 
+/* The same board finished with up to 10 choices: how the search ended, and what the room then holds of each cell. */
+static int show_search(void)
+{
+    static const char *const endings[] = {"SOLVED", "NONE", "SPENT"};
+    const uint64_t given = 10;
+    uint64_t left = given;
+    tanglepunt_counts counts = tanglepunt_checked_board_counts(file, sizeof file);
+    tanglepunt_ending ended = tanglepunt_checked_search(file, sizeof file, &left, room, TANGLEPUNT_ROOM, stack,
+                                                        TANGLEPUNT_STACK, forward, TANGLEPUNT_TABLE, backward,
+                                                        TANGLEPUNT_TABLE);
+    if (counts.refused || ended.refused)
+        return 1;
+    printf("%s FOLLOWED %" PRIu64 " LEFT %" PRIu64 "\n", endings[ended.ending], given - left, left);
+    for (size_t cell = 0; cell < counts.cells; cell++) {
+        printf("CELL %zu VALUES", cell);
+        print_domain(room[cell]);
+    }
+    return 0;
+}
+
 int main(void)
 {
-    return show_row() || show_board();
+    return show_row() || show_board() || show_search();
 }

@@ -1,18 +1,20 @@
 /*
  * Tanglepunt for C11 and C++17 on x86-64: counts the good fillings of weighted rows, strikes values that no good
- * filling uses, settles boards, advises a move, reads and writes board files. docs/LIBRARY.md says how to build and link.
+ * filling uses, settles boards, advises a move, finishes boards by search, reads and writes board files. docs/LIBRARY.md
+ * says how to build and link.
  *
  * Calls that take pointers stand here twice.
  *
  * tanglepunt_NAME is the proved export. It answers every input as its comment says, but what a pointer is it can't test.
  * Its caller owes pointers that are not null and are aligned for their entries, also where there are 0 entries; numbers of
- * entries that are true; and lent room, which is what the call writes, that overlaps no other room and no input.
+ * entries that are true; and lent room, which is what the call writes, that overlaps no other room and no input. A number
+ * that is lent, as the choices of a search, is room of one entry.
  *
  * tanglepunt_checked_NAME takes the same arguments and tests what can be tested of that, before anything else. It answers
  * 255, TANGLEPUNT_UNLENDABLE, and touches nothing where a pointer to entries is null or misaligned, where so many entries
  * don't fit into memory from there, or where lent room overlaps other room or an input: the same room lent twice is one
  * case. An empty slice may come with any pointer, null too. Then it makes the proved call, so room of the wrong size gets
- * document 01's number. Only numbers of entries that are true are still owed.
+ * that call's number. Only numbers of entries that are true are still owed.
  */
 #ifndef TANGLEPUNT_H
 #define TANGLEPUNT_H
@@ -30,6 +32,7 @@
 #define TANGLEPUNT_BOARD_CELLS 64 /* the most cells on a board */
 #define TANGLEPUNT_BOARD_ROWS 32  /* the most rows on a board */
 #define TANGLEPUNT_ROOM 64        /* the fewest entries of domain room */
+#define TANGLEPUNT_STACK 4096     /* the fewest entries of a search's stack room */
 #define TANGLEPUNT_FILE 1062      /* the most bytes of a board file: room for every file */
 
 /* The number for no, in the field `refused` of an answer; 0 where the call isn't refused. Each is given exactly when: */
@@ -48,7 +51,8 @@ enum {
     TANGLEPUNT_NO_TWICE = 12,       /* a row names a cell twice */
     TANGLEPUNT_NO_ROOM = 13,        /* domain room below 64 entries */
     TANGLEPUNT_NO_WRITER_ROOM = 14, /* writer's room shorter than the file */
-    TANGLEPUNT_UNLENDABLE = 255     /* no number of document 01: a checked call's, said above */
+    TANGLEPUNT_NO_STACK = 15,       /* stack room below 4,096 entries */
+    TANGLEPUNT_UNLENDABLE = 255     /* no number of documents 01 and 02: a checked call's, said above */
 };
 
 /* How two fractions stand: the first is .. the second. */
@@ -56,6 +60,9 @@ enum { TANGLEPUNT_BELOW = 0, TANGLEPUNT_EQUAL = 1, TANGLEPUNT_ABOVE = 2 };
 
 /* Which advice: some domain is empty; no cell that stands in a row has two or more values; a move. */
 enum { TANGLEPUNT_DEAD = 0, TANGLEPUNT_SETTLED = 1, TANGLEPUNT_ADVISE = 2 };
+
+/* How a search ended: with a filling; the board has none; the search needs more choices than were given. */
+enum { TANGLEPUNT_SOLVED = 0, TANGLEPUNT_NONE = 1, TANGLEPUNT_SPENT = 2 };
 
 /* Answers. A field that the answer doesn't use is 0; after a refusal that is every field but `refused`. */
 typedef struct {
@@ -101,9 +108,15 @@ typedef struct {
     double share;                             /* count divided by total, for display */
 } tanglepunt_advice;
 
+typedef struct {
+    uint8_t refused;
+    uint8_t ending;
+} tanglepunt_ending;
+
 static_assert(sizeof(size_t) == 8 && sizeof(tanglepunt_number) == 16 && sizeof(tanglepunt_order) == 2, "x86-64");
 static_assert(sizeof(tanglepunt_row) == 120 && sizeof(tanglepunt_board) == 4112, "the library's record of a board");
-static_assert(sizeof(tanglepunt_reading) == 4120 && sizeof(tanglepunt_advice) == 72, "the library's answers");
+static_assert(sizeof(tanglepunt_reading) == 4120 && sizeof(tanglepunt_advice) == 72 && sizeof(tanglepunt_ending) == 2,
+              "the library's answers");
 
 #ifdef __cplusplus
 extern "C" {
@@ -179,6 +192,23 @@ tanglepunt_number tanglepunt_write(tanglepunt_board board, uint8_t *room, size_t
  */
 tanglepunt_advice tanglepunt_advise(const uint8_t *file, size_t n_file, uint32_t *room, size_t n_room,
                                     uint64_t *forward, size_t n_forward, uint64_t *backward, size_t n_backward);
+
+/*
+ * Finishes the board of a file: settles, follows the advice, settles again; when that branch holds no filling, removes the
+ * advised value at that level and settles. Following advice once is one choice, and the number lent says how many are
+ * allowed. Answers:
+ * - Solved: the board has a filling. The first entries of the room hold it, one single-value domain per cell; a cell in no
+ *   row takes its lowest value.
+ * - None: it has none.
+ * - Spent: this search needs more choices than were given. A higher number never alters a Solved or a None.
+ * After None and Spent the first entries of the room hold the settled domains before any choice. The number lent ends as
+ * what was given less the choices followed, which is 0 after Spent. The first 4,096 entries of the stack room and the
+ * first 5,632 of each table are zero; the rest of all room is unchanged. Refused: 3, 13, 15, then as read; all room and
+ * the number of choices are untouched.
+ */
+tanglepunt_ending tanglepunt_search(const uint8_t *file, size_t n_file, uint64_t *choices, uint32_t *room,
+                                    size_t n_room, uint32_t *stack, size_t n_stack, uint64_t *forward,
+                                    size_t n_forward, uint64_t *backward, size_t n_backward);
 
 #ifdef __cplusplus
 }
@@ -352,6 +382,24 @@ static inline tanglepunt_advice tanglepunt_checked_advise(const uint8_t *file, s
     if (!tanglepunt_lendable(spans, 4, 1))
         return no;
     return tanglepunt_advise(TANGLEPUNT_SLICE(const uint8_t, file, n_file), TANGLEPUNT_SLICE(uint32_t, room, n_room),
+                             TANGLEPUNT_SLICE(uint64_t, forward, n_forward),
+                             TANGLEPUNT_SLICE(uint64_t, backward, n_backward));
+}
+
+/* The number of choices is tested as room of one entry. */
+static inline tanglepunt_ending tanglepunt_checked_search(const uint8_t *file, size_t n_file, uint64_t *choices,
+                                                          uint32_t *room, size_t n_room, uint32_t *stack,
+                                                          size_t n_stack, uint64_t *forward, size_t n_forward,
+                                                          uint64_t *backward, size_t n_backward)
+{
+    const tanglepunt_ending no = {TANGLEPUNT_UNLENDABLE, TANGLEPUNT_SOLVED};
+    const tanglepunt_span spans[] = {TANGLEPUNT_SPAN(file, n_file),       TANGLEPUNT_SPAN(choices, 1),
+                                     TANGLEPUNT_SPAN(room, n_room),       TANGLEPUNT_SPAN(stack, n_stack),
+                                     TANGLEPUNT_SPAN(forward, n_forward), TANGLEPUNT_SPAN(backward, n_backward)};
+    if (!tanglepunt_lendable(spans, 6, 1))
+        return no;
+    return tanglepunt_search(TANGLEPUNT_SLICE(const uint8_t, file, n_file), choices,
+                             TANGLEPUNT_SLICE(uint32_t, room, n_room), TANGLEPUNT_SLICE(uint32_t, stack, n_stack),
                              TANGLEPUNT_SLICE(uint64_t, forward, n_forward),
                              TANGLEPUNT_SLICE(uint64_t, backward, n_backward));
 }

@@ -1,7 +1,7 @@
 /*
  * Goes through every call, by the exports and by the checked calls: answers, refusals in their order, what room holds
- * afterwards, and what only the checked calls refuse. What is expected is document 01's or enumerated here. Prints how
- * many checks were made, or stops at the line of the first that fails.
+ * afterwards, and what only the checked calls refuse. What is expected is document 01's, enumerated or worked out here.
+ * Prints how many checks were made, or stops at the line of the first that fails.
  */
 #include "tanglepunt.h"
 
@@ -9,7 +9,8 @@
 #include <stdio.h>
 #include <stdlib.h>
 
-enum { TABLE = TANGLEPUNT_TABLE, ROOM = TANGLEPUNT_ROOM, LONGEST = TANGLEPUNT_FILE, SPARE = 8 };
+enum { TABLE = TANGLEPUNT_TABLE, ROOM = TANGLEPUNT_ROOM, STACK = TANGLEPUNT_STACK, LONGEST = TANGLEPUNT_FILE };
+enum { SPARE = 8 };
 
 static unsigned long checks;
 static unsigned long in_case; /* the case under test: its line, or its place in its table */
@@ -43,13 +44,16 @@ typedef struct {
     tanglepunt_counts (*board_counts)(const uint8_t *, size_t);
     tanglepunt_number (*write)(tanglepunt_board, uint8_t *, size_t);
     tanglepunt_advice (*advise)(const uint8_t *, size_t, uint32_t *, size_t, uint64_t *, size_t, uint64_t *, size_t);
+    tanglepunt_ending (*search)(const uint8_t *, size_t, uint64_t *, uint32_t *, size_t, uint32_t *, size_t, uint64_t *,
+                                size_t, uint64_t *, size_t);
 } face;
 
 static const face FACES[] = {
     {tanglepunt_total, tanglepunt_count, tanglepunt_strike, tanglepunt_read, tanglepunt_read_at,
-     tanglepunt_board_counts, tanglepunt_write, tanglepunt_advise},
+     tanglepunt_board_counts, tanglepunt_write, tanglepunt_advise, tanglepunt_search},
     {tanglepunt_checked_total, tanglepunt_checked_count, tanglepunt_checked_strike, tanglepunt_checked_read,
-     tanglepunt_checked_read_at, tanglepunt_checked_board_counts, tanglepunt_checked_write, tanglepunt_checked_advise},
+     tanglepunt_checked_read_at, tanglepunt_checked_board_counts, tanglepunt_checked_write, tanglepunt_checked_advise,
+     tanglepunt_checked_search},
 };
 
 static const face *by;
@@ -57,8 +61,8 @@ static const face *by;
 /* ---- All room and all inputs in one piece: one comparison shows that nothing was touched. */
 
 typedef struct {
-    uint64_t forward[TABLE + SPARE], backward[TABLE + SPARE];
-    uint32_t domains[16], room[ROOM + SPARE];
+    uint64_t forward[TABLE + SPARE], backward[TABLE + SPARE], choices;
+    uint32_t domains[16], stack[STACK + SPARE], room[ROOM + SPARE];
     uint8_t weights[16], file[LONGEST + SPARE], written[LONGEST + SPARE];
 } rooms;
 
@@ -456,6 +460,9 @@ static void check_file_refused(size_t n, int refused)
     CHECK(advice.refused == refused && advice.kind == 0 && advice.passes == 0 && advice.struck == 0);
     CHECK(advice.cell == 0 && advice.value == 0 && advice.row == 0 && advice.count == 0 && advice.total == 0);
     CHECK(advice.share == 0.0 && untouched());
+    tanglepunt_ending ending = by->search(now.file, n, &now.choices, now.room, ROOM, now.stack, STACK, now.forward,
+                                          TABLE, now.backward, TABLE);
+    CHECK(ending.refused == refused && ending.ending == 0 && untouched());
 }
 
 static void test_file_refusals(void)
@@ -608,16 +615,28 @@ static void test_longest(void)
 
 /* ---- Advice. */
 
-/* The board's file is written, and then advised on; the room ends with these domains, the tables with zeros. */
-static tanglepunt_advice advise_board(tanglepunt_board board, const uint32_t *settled)
+/* The board's file is written; its length. */
+static size_t place_board(tanglepunt_board board)
 {
     place_file(EXAMPLE, 0);
     size_t n = by->write(board, now.file, LONGEST).number;
     keep();
-    tanglepunt_advice advice = by->advise(now.file, n, now.room, ROOM, now.forward, TABLE + SPARE, now.backward, TABLE);
-    memcpy(before.room, settled, board.cells * sizeof *settled);
+    return n;
+}
+
+/* What a board call leaves: these domains at the front of the room, zeros in the tables. */
+static void expect_left(const uint32_t *domains, size_t cells)
+{
+    memcpy(before.room, domains, cells * sizeof *domains);
     memset(before.forward, 0, TABLE * sizeof *before.forward);
     memset(before.backward, 0, TABLE * sizeof *before.backward);
+}
+
+static tanglepunt_advice advise_board(tanglepunt_board board, const uint32_t *settled)
+{
+    size_t n = place_board(board);
+    tanglepunt_advice advice = by->advise(now.file, n, now.room, ROOM, now.forward, TABLE + SPARE, now.backward, TABLE);
+    expect_left(settled, board.cells);
     CHECK(advice.refused == 0 && untouched());
     return advice;
 }
@@ -689,6 +708,122 @@ static void test_advise_refusals(void)
         CHECK(a.refused == cases[k].refused && untouched());
         check_tally(a, 0, 0, 0);
     }
+}
+
+/* ---- Searching. */
+
+/* A board finished with so many choices: how it ends, how many are left, and the domains at the front of the room. */
+static void check_ending(tanglepunt_board board, uint64_t given, int ending, uint64_t left, const uint32_t *domains)
+{
+    size_t n = place_board(board);
+    now.choices = given;
+    tanglepunt_ending e = by->search(now.file, n, &now.choices, now.room, ROOM + SPARE, now.stack, STACK + SPARE,
+                                     now.forward, TABLE, now.backward, TABLE + SPARE);
+    expect_left(domains, board.cells);
+    memset(before.stack, 0, STACK * sizeof *before.stack);
+    before.choices = left;
+    CHECK(e.refused == 0 && e.ending == ending && untouched());
+}
+
+/* A board whose search needs so many choices: with none, one fewer, exactly enough, one more, and the largest number. */
+static void check_search(tanglepunt_board board, uint64_t needs, int ending, const uint32_t *settled,
+                         const uint32_t *found)
+{
+    const uint64_t numbers[] = {0, needs - 1, needs, needs + 1, UINT64_MAX}; /* one below 0 is the largest, too */
+    for (size_t k = 0; k < sizeof numbers / sizeof *numbers; k++)
+        if (numbers[k] < needs)
+            check_ending(board, numbers[k], TANGLEPUNT_SPENT, 0, settled);
+        else
+            check_ending(board, numbers[k], ending, numbers[k] - needs, found);
+}
+
+static void test_search(void)
+{
+    /* document 01's board: its advice, cell 0 value 1, is a filling's */
+    AT(check_search(example_board(), 1, TANGLEPUNT_SOLVED, (const uint32_t[]){0x6, 0x6, 0x8},
+                    (const uint32_t[]){0x2, 0x4, 0x8}));
+    /* P9's row leaves one value; a cell in no row takes its lowest */
+    AT(check_search(one_row(2, (const uint32_t[]){0xC, 0x6}, (tanglepunt_row){1, 510, 511, {0}, {255}}), 0,
+                    TANGLEPUNT_SOLVED, (const uint32_t[]){0x4, 0x6}, (const uint32_t[]){0x4, 0x2}));
+    /* P8's row has total 0 */
+    AT(check_search(one_row(2, (const uint32_t[]){0xF, 0xF}, (tanglepunt_row){2, 5, 5, {0, 1}, {2, 2}}), 0,
+                    TANGLEPUNT_NONE, (const uint32_t[]){0, 0}, (const uint32_t[]){0, 0}));
+    /* goes back: the advice, cell 2 value 0, 5 of 8, asks for 3 of the other two in row 0, for at most 2 in row 1 */
+    tanglepunt_board b = one_row(3, (const uint32_t[]){0x7, 0x7, 0x3}, (tanglepunt_row){3, 3, 3, {0, 1, 2}, {1, 1, 2}});
+    b.rows = 2;
+    b.lines[1] = (tanglepunt_row){3, 1, 2, {0, 1, 2}, {1, 1, 1}};
+    AT(check_search(b, 2, TANGLEPUNT_SOLVED, b.domains, (const uint32_t[]){0x1, 0x2, 0x2}));
+    /* three cells of 0 and 1, any two with sum 1: no row sees that there is no filling */
+    b = one_row(3, (const uint32_t[]){0x3, 0x3, 0x3}, (tanglepunt_row){2, 1, 1, {0, 1}, {1, 1}});
+    b.rows = 3;
+    b.lines[1] = (tanglepunt_row){2, 1, 1, {1, 2}, {1, 1}};
+    b.lines[2] = (tanglepunt_row){2, 1, 1, {0, 2}, {1, 1}};
+    AT(check_search(b, 1, TANGLEPUNT_NONE, b.domains, b.domains));
+}
+
+/* A search's pointers and numbers of entries. */
+typedef struct {
+    const uint8_t *file;
+    size_t n_file;
+    uint64_t *choices;
+    uint32_t *room;
+    size_t n_room;
+    uint32_t *stack;
+    size_t n_stack;
+    uint64_t *forward;
+    size_t n_forward;
+    uint64_t *backward;
+    size_t n_backward;
+} search_lent;
+
+#define SEARCH_LENT                                                                                                    \
+    {now.file, sizeof EXAMPLE, &now.choices, now.room, ROOM, now.stack, STACK, now.forward, TABLE, now.backward, TABLE}
+
+/* What a search of the example in these rooms says: Solved, or a number for no. */
+static void check_search_lent(search_lent l, int refused)
+{
+    place_file(EXAMPLE, sizeof EXAMPLE);
+    tanglepunt_ending e = by->search(l.file, l.n_file, l.choices, l.room, l.n_room, l.stack, l.n_stack, l.forward,
+                                     l.n_forward, l.backward, l.n_backward);
+    CHECK(e.refused == refused && e.ending == TANGLEPUNT_SOLVED);
+    CHECK(untouched() == (refused != 0));
+}
+
+/* The default with one change made to it. */
+#define CHECK_SEARCH_LENT(change, refused)                                                                             \
+    do {                                                                                                               \
+        search_lent l = SEARCH_LENT;                                                                                   \
+        change;                                                                                                        \
+        AT(check_search_lent(l, refused));                                                                             \
+    } while (0)
+
+static void test_search_refusals(void)
+{
+    /* in order: all wrong, then one less */
+    search_lent wrong = {now.file, 5, &now.choices, now.room, ROOM - 1, now.stack, STACK - 1, now.forward, TABLE - 1,
+                         now.backward, TABLE - 1};
+    AT(check_search_lent(wrong, 3));
+    wrong.n_forward = TABLE;
+    AT(check_search_lent(wrong, 3));
+    wrong.n_backward = TABLE;
+    AT(check_search_lent(wrong, 13));
+    wrong.n_room = ROOM;
+    AT(check_search_lent(wrong, 15));
+    wrong.n_stack = STACK;
+    AT(check_search_lent(wrong, 6));
+    wrong.n_file = sizeof EXAMPLE;
+    AT(check_search_lent(wrong, 0));
+    /* each alone, at its edge and empty */
+    CHECK_SEARCH_LENT(l.n_forward = TABLE - 1, 3);
+    CHECK_SEARCH_LENT(l.n_forward = 0, 3);
+    CHECK_SEARCH_LENT(l.n_backward = TABLE - 1, 3);
+    CHECK_SEARCH_LENT(l.n_backward = 0, 3);
+    CHECK_SEARCH_LENT(l.n_room = ROOM - 1, 13);
+    CHECK_SEARCH_LENT(l.n_room = 0, 13);
+    CHECK_SEARCH_LENT(l.n_stack = STACK - 1, 15);
+    CHECK_SEARCH_LENT(l.n_stack = 0, 15);
+    CHECK_SEARCH_LENT(l.n_stack = STACK + SPARE, 0);
+    CHECK_SEARCH_LENT(l.n_file = sizeof EXAMPLE - 1, 7);
 }
 
 /* ---- What only the checked calls test. */
@@ -784,6 +919,9 @@ static void check_file_pointer(const uint8_t *file, size_t n, int refused)
     CHECK(counts.refused == refused && counts.cells == 0 && counts.rows == 0);
     tanglepunt_advice advice = by->advise(file, n, now.room, ROOM, now.forward, TABLE, now.backward, TABLE);
     CHECK(advice.refused == refused && untouched());
+    tanglepunt_ending ending = by->search(file, n, &now.choices, now.room, ROOM, now.stack, STACK, now.forward, TABLE,
+                                          now.backward, TABLE);
+    CHECK(ending.refused == refused && untouched());
 }
 
 static void check_advise(uint32_t *room, size_t n_room, uint64_t *forward, uint64_t *backward, size_t n, int refused)
@@ -824,6 +962,59 @@ static void test_file_pointers(void)
     AT(check_advise(now.room, 2 * ROOM, now.forward, now.backward, TABLE, no)); /* runs into the file */
 }
 
+static void test_search_pointers(void)
+{
+    const int no = TANGLEPUNT_UNLENDABLE;
+    by = &FACES[1];
+    CHECK_SEARCH_LENT((void)0, 0);
+    /* null: with entries, and empty, which has its own number */
+    CHECK_SEARCH_LENT(l.choices = NULL, no);
+    CHECK_SEARCH_LENT(l.room = NULL, no);
+    CHECK_SEARCH_LENT(l.stack = NULL, no);
+    CHECK_SEARCH_LENT(l.forward = NULL, no);
+    CHECK_SEARCH_LENT(l.backward = NULL, no);
+    CHECK_SEARCH_LENT((l.room = NULL, l.n_room = 0), 13);
+    CHECK_SEARCH_LENT((l.stack = NULL, l.n_stack = 0), 15);
+    CHECK_SEARCH_LENT((l.forward = NULL, l.n_forward = 0), 3);
+    CHECK_SEARCH_LENT((l.backward = NULL, l.n_backward = 0), 3);
+    /* misaligned */
+    CHECK_SEARCH_LENT(l.choices = moved(&now.choices, 4), no);
+    CHECK_SEARCH_LENT(l.room = moved(now.room, 2), no);
+    CHECK_SEARCH_LENT(l.stack = moved(now.stack, 1), no);
+    CHECK_SEARCH_LENT(l.forward = moved(now.forward, 4), no);
+    CHECK_SEARCH_LENT(l.backward = moved(now.backward, 2), no);
+    /* more entries than fit into memory */
+    CHECK_SEARCH_LENT(l.n_room = SIZE_MAX, no);
+    CHECK_SEARCH_LENT(l.n_stack = SIZE_MAX / 4 + 2, no); /* 4 bytes, if the product is let wrap */
+    CHECK_SEARCH_LENT(l.choices = (uint64_t *)(UINTPTR_MAX - 7), no);
+    /* rooms that overlap, by an entry or all of the shorter, and side by side */
+    CHECK_SEARCH_LENT(l.backward = now.forward, no);
+    CHECK_SEARCH_LENT(l.stack = (uint32_t *)now.forward, no);
+    CHECK_SEARCH_LENT(l.stack = (uint32_t *)now.backward, no);
+    CHECK_SEARCH_LENT(l.room = (uint32_t *)now.forward, no);
+    CHECK_SEARCH_LENT(l.room = (uint32_t *)now.backward, no);
+    CHECK_SEARCH_LENT(l.room = now.stack + STACK - 1, no);
+    CHECK_SEARCH_LENT(l.room = now.stack + STACK, 0);
+    CHECK_SEARCH_LENT(l.n_stack = STACK + SPARE + 1, no);
+    /* a room over the file, by the room's last byte */
+    CHECK_SEARCH_LENT(l.file = (uint8_t *)(now.room + ROOM) - 1, no);
+    CHECK_SEARCH_LENT(l.file = (uint8_t *)(now.stack + STACK) - 1, no);
+    CHECK_SEARCH_LENT(l.file = (uint8_t *)(now.forward + TABLE) - 1, no);
+    CHECK_SEARCH_LENT(l.file = (uint8_t *)(now.backward + TABLE) - 1, no);
+    /* the number of choices in a room or the file, beside one, and where an empty one starts */
+    CHECK_SEARCH_LENT(l.choices = (uint64_t *)(now.room + ROOM - 2), no);
+    CHECK_SEARCH_LENT(l.choices = (uint64_t *)(now.room + ROOM), 0);
+    CHECK_SEARCH_LENT(l.choices = (uint64_t *)(now.stack + STACK - 2), no);
+    CHECK_SEARCH_LENT(l.choices = (uint64_t *)(now.stack + STACK), 0);
+    CHECK_SEARCH_LENT(l.choices = now.forward + TABLE - 1, no);
+    CHECK_SEARCH_LENT(l.choices = now.forward + TABLE, 0);
+    CHECK_SEARCH_LENT(l.choices = now.backward + TABLE - 1, no);
+    CHECK_SEARCH_LENT(l.n_backward = TABLE + SPARE, 0);
+    CHECK_SEARCH_LENT(l.n_backward = TABLE + SPARE + 1, no);
+    CHECK_SEARCH_LENT(l.file = (uint8_t *)&now.choices + 7, no);
+    CHECK_SEARCH_LENT((l.stack = (uint32_t *)&now.choices, l.n_stack = 0), 15);
+}
+
 int main(void)
 {
     test_rank();
@@ -839,9 +1030,12 @@ int main(void)
         test_longest();
         test_advise();
         test_advise_refusals();
+        test_search();
+        test_search_refusals();
     }
     test_row_pointers();
     test_file_pointers();
+    test_search_pointers();
     printf("C: %lu checks\n", checks);
     return 0;
 }

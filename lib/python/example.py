@@ -1,5 +1,5 @@
 #!/usr/bin/env python3
-"""A row and a board through the Python module: the Figure row of document 000, and document 01's board of 36 bytes.
+"""A row, a board and a search through the Python module: the Figure row of document 000, and document 01's board of 36 bytes.
 
 usage: example.py      (what it prints stands in example.txt)
 """
@@ -35,6 +35,12 @@ advice = tanglepunt.advise(file)
 print(advice.kind, "after", advice.passes, "passes, struck", advice.struck, "leaving", *map(values, advice.domains))
 print("cell", advice.cell, "value", advice.value, "row", advice.row, "count", advice.count, "total", advice.total, "share", advice.share)
 print("written again it is the same:", tanglepunt.write(board) == file)
+
+print("The board finished with up to 10 choices")
+ending = tanglepunt.search(file, 10)
+print(ending.kind.upper(), "FOLLOWED", ending.followed, "LEFT", ending.left)
+for cell, listed in enumerate(ending.domains):
+    print("CELL", cell, "VALUES", *(values(listed) or ["NONE"]))
 
 print("Refused")
 board.rows[0].low = 4

@@ -1,16 +1,19 @@
-"""Tanglepunt from Python: counts the good fillings of a row, strikes values, reads and writes board files, advises a move.
+"""Tanglepunt from Python: counts the good fillings of a row, strikes values, reads and writes board files, advises a move,
+finishes boards by search.
 
-Each function is the library's call of that name. Words, sizes and numbers for no are document 01's.
+Each function is the library's call of that name. Words, sizes and numbers for no are those of documents 01 and 02.
 
 - A number for no is the exception Refused; all lent room is then untouched.
 - Before the call, a number that doesn't fit is a ValueError, and what is no int (a bool, a float) a TypeError. A weight is a
   byte, a domain has 32 bits, every other number 64.
 - Weights and domains are sequences of int, files are bytes-like. They are copied and never changed.
 - Room is lent by keyword, as array.array, ctypes array, bytearray or memoryview of one: `forward` and `backward` of 64-bit
-  numbers, the `room` of `advise` of 32-bit numbers, the `room` of `write` of bytes. Room of another type is a TypeError;
-  room that is read-only, not contiguous, misaligned, or overlaps other lent room, is a ValueError, before the call.
-  Longer room keeps its rest. Of room too short, empty or not, the library says 3, 13 or 14. Where none is lent, a call makes its own.
-- A call keeps Python's lock, so that no other thread changes lent room meanwhile.
+  numbers, the `room` of `advise` and `search` and the `stack` of 32-bit numbers, the `room` of `write` of bytes. Room of
+  another type is a TypeError; room that is read-only, not contiguous, misaligned, or overlaps other lent room, is a
+  ValueError, before the call. Longer room keeps its rest. Of room too short, empty or not, the library says 3, 13, 14 or 15.
+  Where none is lent, a call makes its own.
+- A call keeps Python's lock, so that no other thread changes lent room meanwhile. A search may keep it long: the number of
+  choices bounds that.
 
 The shared object is target/lib/libtanglepunt.so of this repository, which lib/build makes, or the file that TANGLEPUNT_LIBRARY names.
 """
@@ -22,6 +25,7 @@ from dataclasses import dataclass
 U8, U32, U64 = ctypes.c_uint8, ctypes.c_uint32, ctypes.c_uint64
 CODES = {U8: {"B"}, U32: {"I"}, U64: {"Q", "L"}}  # how a room's format may name its numbers; their size is tested as well
 SUMS, TABLE, FILE = 512, 5632, 1062  # the entries of a layer and of a table, the bytes of the longest file
+STACK = 4096  # the entries of a search's stack room
 ROW_CELLS, BOARD_CELLS, BOARD_ROWS = 10, 64, 32
 
 REASONS = {
@@ -39,11 +43,12 @@ REASONS = {
     12: "a row names a cell twice",
     13: "domain room below 64 entries",
     14: "writer's room shorter than the file",
+    15: "stack room below 4,096 entries",
 }
 
 
 class Refused(Exception):
-    """A number for no, `.number`, given exactly when document 01 says so."""
+    """A number for no, `.number`, given exactly when its text in REASONS says so."""
 
     def __init__(self, number):
         super().__init__(number)
@@ -87,6 +92,17 @@ class Advice:
     share: float = None
 
 
+@dataclass
+class Ending:
+    """How a search ended: kind is 'solved', 'none' or 'spent'. Followed and left add up to the choices given. The domains are
+    after 'solved' the filling, one value in each, and else the settled ones before any choice."""
+
+    kind: str
+    followed: int
+    left: int
+    domains: list
+
+
 def _struct(name, **fields):
     return type(name, (ctypes.Structure,), {"_fields_": list(fields.items())})
 
@@ -99,8 +115,10 @@ _Board = _struct("_Board", cells=U64, domains=U32 * BOARD_CELLS, rows=U64, lines
 _Reading = _struct("_Reading", refused=U8, board=_Board)
 _MOVE = {"cell": U64, "value": U64, "row": U64, "count": U64, "total": U64, "share": ctypes.c_double}
 _Advice = _struct("_Advice", refused=U8, kind=U8, passes=U64, struck=U64, **_MOVE)
+_Ending = _struct("_Ending", refused=U8, ending=U8)
 
-# Each export's answer, then what it takes; [T] is a slice, which is a pointer and the number of entries.
+# Each export's answer, then what it takes; [T] is a slice, which is a pointer and the number of entries. A pointer alone
+# is to a number that is lent.
 _ROW, _TABLES = ([U8], [U32], U64, U64), ([U64], [U64])
 _EXPORTS = {
     "rank": (_Order, U64, U64, U64, U64),
@@ -113,6 +131,7 @@ _EXPORTS = {
     "board_counts": (_Counts, [U8]),
     "write": (_Number, _Board, [U8]),
     "advise": (_Advice, [U8], [U32], *_TABLES),
+    "search": (_Ending, [U8], ctypes.POINTER(U64), [U32], [U32], *_TABLES),
 }
 
 
@@ -204,6 +223,14 @@ def _on_row(name, weights, domains, *numbers, forward, backward):
     return _call(name, _copied(weights, U8), left, *numbers, *rooms).number, left[:]
 
 
+def _on_board(name, file, *lent_number, rooms, forward, backward):
+    """A board call's answer, and the domains that it leaves in the first of its rooms. Each room is given with its size."""
+    data = _file(file)
+    lent = _apart(*(_lent(room, U32, size) for room, size in rooms), _lent(forward, U64, TABLE), _lent(backward, U64, TABLE))
+    told = _call(name, data, *lent_number, *lent)
+    return told, lent[0][: _call("board_counts", data).cells]
+
+
 def _board(record):
     rows = [Row(line.low, line.high, line.names[: line.len], line.weights[: line.len]) for line in record.lines[: record.rows]]
     return Board(record.domains[: record.cells], rows)
@@ -285,9 +312,20 @@ def write(board, room=None):
 
 def advise(file, *, room=None, forward=None, backward=None):
     """The Advice on a file's board. Lent room holds the settled domains at its front, each table 5,632 zeros. Refused: 3, 13, then as `read`."""
-    data = _file(file)
-    rooms = _apart(_lent(room, U32, BOARD_CELLS), _lent(forward, U64, TABLE), _lent(backward, U64, TABLE))
-    told = _call("advise", data, *rooms)
-    domains = rooms[0][: _call("board_counts", data).cells]
+    told, domains = _on_board("advise", file, rooms=[(room, BOARD_CELLS)], forward=forward, backward=backward)
     move = [getattr(told, name) for name in _MOVE] if told.kind == 2 else []
     return Advice(("dead", "settled", "advise")[told.kind], told.passes, told.struck, domains, *move)
+
+
+def search(file, choices, *, room=None, stack=None, forward=None, backward=None):
+    """Finishes a file's board and answers its Ending: settles, follows the advice, settles again; when that branch holds no
+    filling, removes the advised value at that level and settles. Following advice once is one of the choices given.
+
+    It is 'solved' where the board has a filling, in which a cell in no row takes its lowest value, 'none' where it has none,
+    and 'spent' where this search needs more choices than were given; more never alter a 'solved' or a 'none'. Lent room holds
+    the domains at its front, the stack 4,096 zeros, each table 5,632. Refused: 3, 13, 15, then as `read`.
+    """
+    left = U64(_fitting(choices, U64))
+    rooms = [(room, BOARD_CELLS), (stack, STACK)]
+    told, domains = _on_board("search", file, left, rooms=rooms, forward=forward, backward=backward)
+    return Ending(("solved", "none", "spent")[told.ending], choices - left.value, left.value, domains)

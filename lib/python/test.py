@@ -29,6 +29,7 @@ U8, U32, U64 = ctypes.c_uint8, ctypes.c_uint32, ctypes.c_uint64
 FULL, MOST = 2**32 - 1, 2**64 - 1
 FIGURE = [3, 1, 2, 1], [0b111, 0b1011, 0b111, 0b110], 5, 8
 EXAMPLE = bytes.fromhex("0E000000 0E000000 0E000000 02 0300 0300 0001 0101 02 0700 0800 0101 0202 0C00 03 02 534C")
+LEAST = {"room": ("I", 64), "stack": ("I", 4096), "forward": ("Q", 5632), "backward": ("Q", 5632)}  # a board call's rooms
 NO_NUMBERS = [(TypeError, x) for x in (True, 1.0, None, "1", b"1", U64(1))] + [(ValueError, x) for x in (-1, 2**64, 10**5000)]
 
 
@@ -37,8 +38,12 @@ def example():
 
 
 def patterned(code, size):
-    """Room full of numbers, each its own."""
-    return array.array(code, (1000003 * k % 251 for k in range(size)))
+    """Room full of numbers, each another than its neighbours and none of them 0, which calls write."""
+    return array.array(code, (1 + 1000003 * k % 251 for k in range(size)))
+
+
+def in_ctypes(room):
+    return ({"I": U32, "Q": U64}[room.typecode] * len(room))(*room)
 
 
 def values(domain):
@@ -71,6 +76,31 @@ def layers(weights, domains, low, high):
     return forward, backward
 
 
+def is_filling(filling, rows):
+    return all(row.low <= weigh(row.weights, [filling[cell] for cell in row.cells]) <= row.high for row in rows)
+
+
+def halves(source):
+    """Eight cells of 0 and 1, and two rows that each want half of their weights: settling sees little, and searches go back."""
+    lists = [[source.randint(1, 9) for _ in range(8)] for _ in range(2)]
+    return Board([3] * 8, [Row(sum(weights) // 2, sum(weights) // 2, list(range(8)), weights) for weights in lists])
+
+
+def finish(board):
+    """The domains of a filling, or None, and the choices followed, by the advice alone: one call for each settling."""
+    told = tanglepunt.advise(tanglepunt.write(board))
+    if told.kind != "advise":
+        return [domain & -domain for domain in told.domains] if told.kind == "settled" else None, 0
+    followed, advised = 1, 1 << told.value
+    for domain in advised, told.domains[told.cell] - advised:
+        cut = told.domains[: told.cell] + [domain] + told.domains[told.cell + 1 :]
+        found, more = finish(Board(cut, board.rows))
+        followed += more
+        if found:
+            break
+    return found, followed
+
+
 def struck_and_left(weights, domains, low, high):
     good = good_fillings(weights, domains, low, high)
     left = [sum(1 << v for v in {f[p] for f in good}) for p in range(len(domains))]
@@ -92,6 +122,16 @@ class Case(unittest.TestCase):
         before = {name: bytes(room) for name, room in lent.items() if not isinstance(room, (list, int, str))}
         self.assertRaises(error, call, *given, **lent)
         self.assertEqual({name: bytes(lent[name]) for name in before}, before)
+
+
+    def board_call_leaves(self, call, *given, **front):
+        """Lent room of each type, as long as is needed and longer, ends with this at its front and is unchanged after it."""
+        for more, hold in itertools.product([0, 36], [lambda room: room, memoryview, in_ctypes]):
+            rooms = {name: hold(patterned(LEAST[name][0], LEAST[name][1] + more)) for name in front}
+            before = {name: list(room) for name, room in rooms.items()}
+            self.assertEqual(call(*given, **rooms), call(*given))
+            for name, room in rooms.items():
+                self.assertEqual(list(room), front[name] + before[name][len(front[name]) :])
 
 
 class Fractions(Case):
@@ -215,6 +255,8 @@ class Rooms(Case):
             self.unlent(TypeError, tanglepunt.advise, EXAMPLE, backward=table)
         for room in [[0] * 64, bytearray(256), patterned("Q", 64), patterned("i", 64), array.array("f", bytes(256))]:
             self.unlent(TypeError, tanglepunt.advise, EXAMPLE, room=room)
+            self.unlent(TypeError, tanglepunt.search, EXAMPLE, 10, room=room)
+            self.unlent(TypeError, tanglepunt.search, EXAMPLE, 10, stack=room)
         for room in [[0] * 64, "room", patterned("I", 64), array.array("b", bytes(64)), memoryview(bytearray(64)).cast("c")]:
             self.unlent(TypeError, tanglepunt.write, example(), room=room)
 
@@ -225,6 +267,9 @@ class Rooms(Case):
             self.unlent(ValueError, tanglepunt.strike, *FIGURE, backward=room)
         self.unlent(ValueError, tanglepunt.advise, EXAMPLE, room=memoryview(patterned("I", 64)).toreadonly())
         self.unlent(ValueError, tanglepunt.advise, EXAMPLE, room=memoryview(bytearray(260))[2:258].cast("I"))
+        stack = memoryview(patterned("I", 8192))
+        for room in [stack.toreadonly(), stack[::2], memoryview(bytearray(16388))[2:16386].cast("I")]:
+            self.unlent(ValueError, tanglepunt.search, EXAMPLE, 10, stack=room)
         for room in bytes(64), memoryview(bytearray(128))[::2]:
             self.unlent(ValueError, tanglepunt.write, example(), room=room)
 
@@ -232,7 +277,8 @@ class Rooms(Case):
         table = patterned("Q", 12000)
         view = memoryview(table)
         pairs = [(table, table), (view[:5633], view[5632:]), (view[100:200], view), ((U64 * 12000).from_buffer(table), view[11999:])]
-        calls = [(tanglepunt.total, FIGURE), (tanglepunt.strike, FIGURE), (tanglepunt.count, (*FIGURE, 0, 0)), (tanglepunt.advise, (EXAMPLE,))]
+        calls = [(tanglepunt.total, FIGURE), (tanglepunt.strike, FIGURE), (tanglepunt.count, (*FIGURE, 0, 0))]
+        calls += [(tanglepunt.advise, (EXAMPLE,)), (tanglepunt.search, (EXAMPLE, 10))]
         for (one, other), (call, given) in itertools.product(pairs, calls):
             self.unlent(ValueError, call, *given, forward=one, backward=other)
             self.unlent(ValueError, call, *given, forward=other, backward=one)
@@ -240,6 +286,9 @@ class Rooms(Case):
         for tables in [{"forward": view[31:]}, {"backward": view[31:]}, {"backward": view}]:
             self.unlent(ValueError, tanglepunt.advise, EXAMPLE, room=domains[:64], **tables)
         self.assertEqual(tanglepunt.advise(EXAMPLE, room=domains[:64], forward=view[32:5664]).domains, [6, 6, 8])
+        for others in [{"room": domains[4095:]}, {"forward": view[2047:]}, {"backward": view[2047:]}]:
+            self.unlent(ValueError, tanglepunt.search, EXAMPLE, 10, stack=domains[:4096], **others)
+        self.assertEqual(tanglepunt.search(EXAMPLE, 10, stack=domains[:4096], room=domains[4096:4160], forward=view[2080:]).domains, [2, 4, 8])
 
     def test_no_other_thread_runs_during_a_call(self):
         """A thread that is ready to run doesn't get to it: where a call gave Python's lock away, it would."""
@@ -283,7 +332,10 @@ class Files(Case):
             self.assertRaises(error, tanglepunt.read_at, EXAMPLE, x)
 
     def test_files_are_bytes_like(self):
-        for call in tanglepunt.begin, tanglepunt.read, tanglepunt.board_counts, tanglepunt.advise:
+        def search(file):
+            return tanglepunt.search(file, 10)
+
+        for call in tanglepunt.begin, tanglepunt.read, tanglepunt.board_counts, tanglepunt.advise, search:
             for file in bytearray(EXAMPLE), memoryview(EXAMPLE), array.array("B", EXAMPLE), (U8 * 36)(*EXAMPLE), memoryview(EXAMPLE[::-1])[::-1]:
                 self.assertEqual(call(file), call(EXAMPLE))
             for file in list(EXAMPLE), 36, None, "SL", array.array("I", EXAMPLE):
@@ -311,6 +363,7 @@ class Files(Case):
         for number, data in cases:
             for call in tanglepunt.read, tanglepunt.board_counts, tanglepunt.advise:
                 self.refused(number, call, data)
+            self.refused(number, tanglepunt.search, data, 7)
             self.refused(number, tanglepunt.read_at, data, tanglepunt.begin(data))
         self.assertEqual(tanglepunt.read(file(d, row)), Board([1], [Row(0, 0, [0], [1])]))
 
@@ -414,17 +467,7 @@ class Advising(Case):
             self.assertEqual(last, report.advice(domains, rows))
 
     def test_lent_room(self):
-        for sizes in (64, 5632, 5632), (100, 6000, 5633):
-            codes = "IQQ"
-            held = [[patterned(c, n) for c, n in zip(codes, sizes)], [memoryview(patterned(c, n)) for c, n in zip(codes, sizes)]]
-            held.append([(t * n)(*patterned(c, n)) for t, c, n in zip((U32, U64, U64), codes, sizes)])
-            for room, forward, backward in held:
-                before = list(room), list(forward), list(backward)
-                told = tanglepunt.advise(EXAMPLE, room=room, forward=forward, backward=backward)
-                self.assertEqual(told, tanglepunt.advise(EXAMPLE))
-                self.assertEqual(list(room), [6, 6, 8] + before[0][3:])
-                self.assertEqual(list(forward), [0] * 5632 + before[1][5632:])
-                self.assertEqual(list(backward), [0] * 5632 + before[2][5632:])
+        self.board_call_leaves(tanglepunt.advise, EXAMPLE, room=[6, 6, 8], forward=[0] * 5632, backward=[0] * 5632)
 
     def test_refused_in_order(self):
         room, forward, backward = patterned("I", 64), patterned("Q", 5632), patterned("Q", 5632)
@@ -434,6 +477,65 @@ class Advising(Case):
             self.refused(13, tanglepunt.advise, b"", room=short, forward=forward, backward=backward)
         self.refused(6, tanglepunt.advise, b"", room=room, forward=forward, backward=backward)
         self.refused(7, tanglepunt.advise, bytes(6), room=room, forward=forward, backward=backward)
+
+
+class Searching(Case):
+    def test_document_01(self):
+        self.assertEqual(tanglepunt.search(EXAMPLE, 10), tanglepunt.Ending("solved", 1, 9, [2, 4, 8]))
+
+    def test_just_enough_and_one_fewer(self):
+        pairs = [Row(1, 1, cells, [1, 1]) for cells in ([0, 1], [1, 2], [0, 2])]
+        back = [Row(3, 3, [0, 1, 2], [1, 1, 2]), Row(1, 2, [0, 1, 2], [1, 1, 1])]
+        cases = [
+            (example(), 1, "solved", [6, 6, 8], [2, 4, 8]),
+            (Board([12, 6], [Row(510, 511, [0], [255])]), 0, "solved", [4, 6], [4, 2]),  # a cell in no row takes its lowest value
+            (Board([15, 15], [Row(5, 5, [0, 1], [2, 2])]), 0, "none", [0, 0], [0, 0]),
+            (Board([7, 7, 3], back), 2, "solved", [7, 7, 3], [1, 2, 2]),  # the first advice, cell 2 value 0, is wrong
+            (Board([3, 3, 3], pairs), 1, "none", [3, 3, 3], [3, 3, 3]),  # no row sees that there is no filling
+        ]
+        for board, needs, kind, settled, found in cases:
+            for given in {0, max(needs - 1, 0), needs, needs + 1, MOST}:
+                expected = (kind, needs, given - needs, found) if given >= needs else ("spent", given, 0, settled)
+                self.assertEqual(tanglepunt.search(tanglepunt.write(board), given), tanglepunt.Ending(*expected))
+
+    def test_against_enumeration_and_the_advice(self):
+        seen = set()
+        for k in range(100):
+            board = halves(random.Random(f"search/{k}"))
+            data = tanglepunt.write(board)
+            found, needs = finish(board)
+            self.assertEqual(found is not None, any(is_filling(f, board.rows) for f in fillings(board.domains)))
+            settled = tanglepunt.advise(data).domains
+            kind, domains = ("solved", found) if found else ("none", settled)
+            self.assertEqual(tanglepunt.search(data, needs), tanglepunt.Ending(kind, needs, 0, domains))
+            if needs:
+                self.assertEqual(tanglepunt.search(data, needs - 1), tanglepunt.Ending("spent", needs - 1, 0, settled))
+            if found:
+                self.assertTrue(is_filling([domain.bit_length() - 1 for domain in found], board.rows))
+            seen.add((kind, needs > 2))
+        self.assertTrue({("solved", True), ("none", True)} <= seen)
+
+    def test_lent_room(self):
+        zeros = {"stack": [0] * 4096, "forward": [0] * 5632, "backward": [0] * 5632}
+        self.board_call_leaves(tanglepunt.search, EXAMPLE, 1, room=[2, 4, 8], **zeros)
+        self.board_call_leaves(tanglepunt.search, EXAMPLE, 0, room=[6, 6, 8], **zeros)
+
+    def test_refused_in_order(self):
+        sound = {name: patterned(*least) for name, least in LEAST.items()}
+        short = {name: room[1:] for name, room in sound.items()}
+        for tables in [{"forward": sound["forward"]}, {"backward": sound["backward"]}]:
+            self.refused(3, tanglepunt.search, b"", 7, **short | tables)
+        tables = {name: sound[name] for name in ("forward", "backward")}
+        for room in short["room"], array.array("I"):
+            self.refused(13, tanglepunt.search, b"", 7, room=room, stack=short["stack"], **tables)
+        for stack in short["stack"], array.array("I"):
+            self.refused(15, tanglepunt.search, b"", 7, room=sound["room"], stack=stack, **tables)
+        self.refused(6, tanglepunt.search, b"", 7, **sound)
+        self.refused(7, tanglepunt.search, bytes(6), 7, **sound)
+
+    def test_no_numbers(self):
+        for error, x in NO_NUMBERS:
+            self.assertRaises(error, tanglepunt.search, EXAMPLE, x)
 
 
 class Loading(Case):

@@ -1,11 +1,16 @@
-//! A row and a board by the library, in document 01's examples.
-use tanglepunt::{advise, board_counts, count, read, strike, total, Advice, Refusal, Tables, ROOM, VALUES};
+//! A row, a board and a search by the library, in document 01's examples.
+use tanglepunt::{advise, board_counts, count, read, search, strike, total};
+use tanglepunt::{Advice, Ending, Refusal, Tables, ROOM, STACK, VALUES};
+
+/// Document 01's board of 36 bytes.
+const EXAMPLE: &[u8] =
+    b"\x0E\0\0\0\x0E\0\0\0\x0E\0\0\0\x02\x03\0\x03\0\0\x01\x01\x01\x02\x07\0\x08\0\x01\x01\x02\x02\x0C\0\x03\x02SL";
 
 fn print_domain(domain: u32) {
     for value in (0..VALUES).filter(|value| domain >> value & 1 == 1) {
         print!(" {value}");
     }
-    println!();
+    println!("{}", if domain == 0 { " NONE" } else { "" });
 }
 
 /// The Figure row: its total, the count of its first cell and value 1, and what is left where the sum 14 is asked for.
@@ -22,13 +27,11 @@ fn show_row(tables: &mut Tables) -> Result<(), Refusal> {
     Ok(())
 }
 
-/// A board file, settled and advised on; then the same bytes without the last.
+/// The board file, settled and advised on; then the same bytes without the last.
 fn show_board(tables: &mut Tables) -> Result<(), Refusal> {
-    let file =
-        b"\x0E\0\0\0\x0E\0\0\0\x0E\0\0\0\x02\x03\0\x03\0\0\x01\x01\x01\x02\x07\0\x08\0\x01\x01\x02\x02\x0C\0\x03\x02SL";
     let mut room = [0; ROOM];
-    let cells = board_counts(file)?.cells;
-    let advised = advise(file, &mut room, &mut tables.forward, &mut tables.backward)?;
+    let cells = board_counts(EXAMPLE)?.cells;
+    let advised = advise(EXAMPLE, &mut room, &mut tables.forward, &mut tables.backward)?;
     println!("passes {}, struck {}; the settled domains", advised.passes, advised.struck);
     room.into_iter().take(cells).for_each(print_domain);
     match advised.advice {
@@ -38,7 +41,7 @@ fn show_board(tables: &mut Tables) -> Result<(), Refusal> {
             println!("advise cell {cell}, value {value}: row {row}, {count} of {total}, share {share}")
         }
     }
-    if let [short @ .., _] = file.as_slice() {
+    if let [short @ .., _] = EXAMPLE {
         match read(short) {
             Ok(_) => println!("without the last byte: read"),
             Err(refusal) => println!("without the last byte: {refusal}"),
@@ -47,8 +50,28 @@ fn show_board(tables: &mut Tables) -> Result<(), Refusal> {
     Ok(())
 }
 
+/// The same board finished with up to 10 choices: how the search ended, and what the room then holds of each cell.
+fn show_search(tables: &mut Tables) -> Result<(), Refusal> {
+    let (mut room, mut stack) = ([0; ROOM], vec![0; STACK]);
+    let given = 10;
+    let mut left = given;
+    let ending = search(EXAMPLE, &mut left, &mut room, &mut stack, &mut tables.forward, &mut tables.backward)?;
+    let word = match ending {
+        Ending::Solved => "SOLVED",
+        Ending::None => "NONE",
+        Ending::Spent => "SPENT",
+    };
+    println!("{word} FOLLOWED {} LEFT {left}", given - left);
+    for (cell, domain) in room.into_iter().take(board_counts(EXAMPLE)?.cells).enumerate() {
+        print!("CELL {cell} VALUES");
+        print_domain(domain);
+    }
+    Ok(())
+}
+
 fn main() -> Result<(), Refusal> {
     let mut tables = Tables::new();
     show_row(&mut tables)?;
-    show_board(&mut tables)
+    show_board(&mut tables)?;
+    show_search(&mut tables)
 }

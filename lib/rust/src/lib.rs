@@ -1,8 +1,10 @@
 //! Tanglepunt counts the good fillings of weighted rows, strikes values that no good filling uses, settles boards, advises
-//! a move, and reads and writes board files. These are safe functions over the proved static library, for x86-64.
+//! a move, finishes boards by search, and reads and writes board files. These are safe functions over the proved static
+//! library, for x86-64.
 //!
-//! Every input gets an answer, and nothing here panics. A [`Refusal`] leaves all lent room untouched. Room of the wrong
-//! size and empty slices are refused with document 01's number. [`Tables`] owns two tables, for callers who don't keep room.
+//! Every input gets an answer, and nothing here panics. A [`Refusal`] leaves all that is lent untouched. Room of the wrong
+//! size and empty slices are refused with the number of document 01 or 02. [`Tables`] owns two tables, for callers who don't
+//! keep room.
 //!
 //! The same room can't be lent twice, nor room that overlaps an input: the borrow rules reject such a program.
 //! ```compile_fail,E0499
@@ -50,6 +52,8 @@ pub const BOARD_CELLS: usize = 64;
 pub const BOARD_ROWS: usize = 32;
 /// The fewest entries of domain room.
 pub const ROOM: usize = 64;
+/// The fewest entries of a search's stack room.
+pub const STACK: usize = 4096;
 /// The most bytes of a board file: room for every file.
 pub const FILE: usize = 1062;
 
@@ -118,6 +122,17 @@ pub enum Advice {
         /// Count divided by total, for display.
         share: f64,
     },
+}
+
+/// How a search ended.
+#[derive(Clone, Copy, Debug, PartialEq, Eq)]
+pub enum Ending {
+    /// The board has a filling, which stands in the domain room.
+    Solved,
+    /// The board has no filling.
+    None,
+    /// The search needs more choices than were given.
+    Spent,
 }
 
 /// The answer, unless there is a number for no.
@@ -255,4 +270,31 @@ pub fn advise(file: &[u8], room: &mut [u32], forward: &mut [u64], backward: &mut
         _ => return Err(Refusal::Unknown),
     };
     Ok(Advised { passes: said.passes, struck: said.struck, advice })
+}
+
+/// Finishes the board of a file: settles, follows the advice, settles again; when that branch holds no filling, removes the
+/// advised value at that level and settles. Following advice once is one choice, and `choices` says how many are allowed;
+/// it ends as what was given less the choices followed, which is 0 after Spent. A higher number never alters a Solved or a
+/// None.
+///
+/// After success the first entries of the room hold, one per cell, after Solved the filling as single-value domains, a cell
+/// in no row with its lowest value, and else the settled domains before any choice. The first 4,096 entries of the stack
+/// and the first 5,632 of each table are zero; the rest is unchanged.
+///
+/// Refused: 3, 13, 15, then as [`read`]; the number of choices too is untouched.
+pub fn search(
+    file: &[u8],
+    choices: &mut u64,
+    room: &mut [u32],
+    stack: &mut [u32],
+    forward: &mut [u64],
+    backward: &mut [u64],
+) -> Result<Ending, Refusal> {
+    let said = raw::search(file, choices, room, stack, forward, backward);
+    match answer(said.refused, said.ending)? {
+        0 => Ok(Ending::Solved),
+        1 => Ok(Ending::None),
+        2 => Ok(Ending::Spent),
+        _ => Err(Refusal::Unknown),
+    }
 }

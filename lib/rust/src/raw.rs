@@ -1,7 +1,8 @@
 //! The exports as they are, each behind a function of slices: the only unsafe code here.
 //!
 //! What the exports can't test and a caller owes holds of every Rust slice: its pointer is not null and is aligned, also
-//! where it is empty, its length is true, and a slice that is lent to be written overlaps no other.
+//! where it is empty, its length is true, and a slice that is lent to be written overlaps no other. A lent number is the
+//! same with one entry.
 
 use crate::Board;
 
@@ -49,6 +50,13 @@ pub struct Advice {
     pub share: f64,
 }
 
+/// Ending is 0 for Solved, 1 for None, 2 for Spent.
+#[repr(C)]
+pub struct Ending {
+    pub refused: u8,
+    pub ending: u8,
+}
+
 #[rustfmt::skip]
 unsafe extern "C" {
     safe fn tanglepunt_rank(c1: u64, t1: u64, c2: u64, t2: u64) -> Order;
@@ -65,13 +73,16 @@ unsafe extern "C" {
     fn tanglepunt_write(board: Board, room: *mut u8, n_room: usize) -> Number;
     fn tanglepunt_advise(file: *const u8, n_file: usize, room: *mut u32, n_room: usize,
         forward: *mut u64, n_forward: usize, backward: *mut u64, n_backward: usize) -> Advice;
+    fn tanglepunt_search(file: *const u8, n_file: usize, choices: *mut u64, room: *mut u32, n_room: usize,
+        stack: *mut u32, n_stack: usize, forward: *mut u64, n_forward: usize, backward: *mut u64, n_backward: usize) -> Ending;
 }
 
 pub fn rank(c1: u64, t1: u64, c2: u64, t2: u64) -> Order {
     tanglepunt_rank(c1, t1, c2, t2)
 }
 
-// SAFETY, of every block below: each pointer and length come from one slice, and every lent slice is borrowed alone.
+// SAFETY, of every block below: each pointer and length come from one slice, a lent number's pointer from its borrow, and
+// all that is lent is borrowed alone.
 
 pub fn total(
     weights: &[u8],
@@ -177,6 +188,31 @@ pub fn advise(file: &[u8], room: &mut [u32], forward: &mut [u64], backward: &mut
             file.len(),
             room.as_mut_ptr(),
             room.len(),
+            forward.as_mut_ptr(),
+            forward.len(),
+            backward.as_mut_ptr(),
+            backward.len(),
+        )
+    }
+}
+
+pub fn search(
+    file: &[u8],
+    choices: &mut u64,
+    room: &mut [u32],
+    stack: &mut [u32],
+    forward: &mut [u64],
+    backward: &mut [u64],
+) -> Ending {
+    unsafe {
+        tanglepunt_search(
+            file.as_ptr(),
+            file.len(),
+            choices,
+            room.as_mut_ptr(),
+            room.len(),
+            stack.as_mut_ptr(),
+            stack.len(),
             forward.as_mut_ptr(),
             forward.len(),
             backward.as_mut_ptr(),

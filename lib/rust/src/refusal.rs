@@ -35,13 +35,16 @@ pub enum Refusal {
     Room,
     /// 14
     WriterRoom,
-    /// 255: an answer that document 01 doesn't have. The contracts exclude it; were it to come, it would not be a panic.
+    /// 15
+    Stack,
+    /// 255: an answer that documents 01 and 02 don't have. The contracts exclude it; were it to come, it would not be a
+    /// panic.
     Unknown = 255,
 }
 
 impl Refusal {
-    /// Document 01's refusals, in the order of their numbers, from 1.
-    pub const ALL: [Refusal; 14] = [
+    /// The refusals of documents 01 and 02, in the order of their numbers, from 1.
+    pub const ALL: [Refusal; 15] = [
         Refusal::Length,
         Refusal::Limits,
         Refusal::Table,
@@ -56,6 +59,7 @@ impl Refusal {
         Refusal::Twice,
         Refusal::Room,
         Refusal::WriterRoom,
+        Refusal::Stack,
     ];
 
     /// Its number.
@@ -69,7 +73,7 @@ impl Refusal {
         known.unwrap_or(Refusal::Unknown)
     }
 
-    /// Document 01's words.
+    /// The words of documents 01 and 02.
     fn words(self) -> &'static str {
         match self {
             Refusal::Length => "row length 0 or above 10, or the two lists differ in length",
@@ -86,7 +90,8 @@ impl Refusal {
             Refusal::Twice => "a row names a cell twice",
             Refusal::Room => "domain room below 64 entries",
             Refusal::WriterRoom => "writer's room shorter than the file",
-            Refusal::Unknown => "an answer that document 01 doesn't have",
+            Refusal::Stack => "stack room below 4,096 entries",
+            Refusal::Unknown => "an answer that documents 01 and 02 don't have",
         }
     }
 }
@@ -104,11 +109,11 @@ mod tests {
     use super::Refusal;
 
     #[test]
-    fn numbers_from_1_to_14() {
+    fn numbers_from_1_to_15() {
         for number in 0..=u8::MAX {
             let refusal = Refusal::of(number);
             match number {
-                1..=14 => assert_eq!(refusal.number(), number),
+                1..=15 => assert_eq!(refusal.number(), number),
                 _ => assert_eq!(refusal, Refusal::Unknown),
             }
         }

@@ -1,5 +1,5 @@
-//! Goes through every call: answers, refusals in their order, what room holds afterwards. What is expected is document 01's
-//! or enumerated here.
+//! Goes through every call: answers, refusals in their order, what room holds afterwards. What is expected is document 01's,
+//! enumerated or worked out here.
 use std::cmp::Ordering;
 use tanglepunt::*;
 
@@ -239,11 +239,47 @@ fn check_advise_refused(file: &[u8], sizes: [usize; 3], refusal: Refusal) {
     assert_eq!(advise_in(file, sizes), (Err(refusal), vec![MARK as u32; sizes[0]], untouched));
 }
 
+/// The choices and the rooms that are lent to a search.
+#[derive(Clone, Debug, PartialEq)]
+struct SearchLent {
+    choices: u64,
+    room: Vec<u32>,
+    stack: Vec<u32>,
+    forward: Vec<u64>,
+    backward: Vec<u64>,
+}
+
+/// So many choices, and marked rooms of these sizes.
+fn search_lent(choices: u64, sizes: [usize; 4]) -> SearchLent {
+    SearchLent {
+        choices,
+        room: vec![MARK as u32; sizes[0]],
+        stack: vec![MARK as u32; sizes[1]],
+        forward: vec![MARK; sizes[2]],
+        backward: vec![MARK; sizes[3]],
+    }
+}
+
+impl SearchLent {
+    fn search(&mut self, file: &[u8]) -> Result<Ending, Refusal> {
+        let (forward, backward) = (&mut self.forward, &mut self.backward);
+        search(file, &mut self.choices, &mut self.room, &mut self.stack, forward, backward)
+    }
+}
+
+fn check_search_refused(file: &[u8], sizes: [usize; 4], refusal: Refusal) {
+    let lent = search_lent(7, sizes);
+    let mut now = lent.clone();
+    assert_eq!(now.search(file), Err(refusal));
+    assert_eq!(now, lent);
+}
+
 fn check_file_refused(file: &[u8], refusal: Refusal) {
     assert_eq!(read(file), Err(refusal));
     assert_eq!(read_at(file, file.len()), Err(refusal));
     assert_eq!(board_counts(file), Err(refusal));
     check_advise_refused(file, [ROOM, TABLE, TABLE], refusal);
+    check_search_refused(file, [ROOM, STACK, TABLE, TABLE], refusal);
 }
 
 #[test]
@@ -411,10 +447,66 @@ fn advice_refusals() {
     check_advise_refused(EXAMPLE, [ROOM, 0, 0], Refusal::Table);
 }
 
+/// A board whose search needs so many choices, with none, one fewer, exactly enough, one more, and the largest number: the
+/// ending, the choices left, these domains, zeros in the stack and the tables, the rest unchanged.
+fn check_search(board: &Board, needs: u64, ending: Ending, settled: &[u32], found: &[u32]) {
+    let mut file = [0; FILE];
+    let size = write(board, &mut file).unwrap();
+    let sizes = [ROOM + SPARE, STACK + SPARE, TABLE, TABLE + SPARE];
+    for given in [0, needs.saturating_sub(1), needs, needs + 1, u64::MAX] {
+        let (ending, left, domains) = match given.checked_sub(needs) {
+            None => (Ending::Spent, 0, settled),
+            Some(left) => (ending, left, found),
+        };
+        let mut after = search_lent(left, sizes);
+        after.room[..domains.len()].copy_from_slice(domains);
+        after.stack[..STACK].fill(0);
+        after.forward[..TABLE].fill(0);
+        after.backward[..TABLE].fill(0);
+        let mut now = search_lent(given, sizes);
+        assert_eq!(now.search(&file[..size]), Ok(ending));
+        assert_eq!(now, after);
+    }
+}
+
+#[test]
+fn searching() {
+    check_search(&example_board(), 1, Ending::Solved, &[0b110, 0b110, 0b1000], &[0b10, 0b100, 0b1000]);
+    // P9's row leaves one value, and a cell in no row takes its lowest; P8's row has total 0
+    let loose = board(&[0b1100, 0b110], &[line(510, 511, &[(0, 255)])]);
+    check_search(&loose, 0, Ending::Solved, &[0b100, 0b110], &[0b100, 0b10]);
+    check_search(&board(&[0b1111; 2], &[line(5, 5, &[(0, 2), (1, 2)])]), 0, Ending::None, &[0, 0], &[0, 0]);
+    // goes back: the advice, cell 2 value 0, 5 of 8, asks for 3 of the other two in row 0, for at most 2 in row 1
+    let domains = [0b111, 0b111, 0b11];
+    let lines = [line(3, 3, &[(0, 1), (1, 1), (2, 2)]), line(1, 2, &[(0, 1), (1, 1), (2, 1)])];
+    check_search(&board(&domains, &lines), 2, Ending::Solved, &domains, &[0b1, 0b10, 0b10]);
+    // three cells of 0 and 1, any two with sum 1: no row sees that there is no filling
+    let odd = [(0, 1), (1, 2), (0, 2)].map(|(one, other)| line(1, 1, &[(one, 1), (other, 1)]));
+    check_search(&board(&[0b11; 3], &odd), 1, Ending::None, &[0b11; 3], &[0b11; 3]);
+}
+
+#[test]
+fn search_refusals() {
+    // tables, then room, then stack, then the file
+    check_search_refused(&[], [ROOM - 1, STACK - 1, TABLE - 1, TABLE], Refusal::Table);
+    check_search_refused(&[], [ROOM - 1, STACK - 1, TABLE, TABLE - 1], Refusal::Table);
+    check_search_refused(&[], [ROOM - 1, STACK - 1, TABLE, TABLE], Refusal::Room);
+    check_search_refused(&[], [ROOM, STACK - 1, TABLE, TABLE], Refusal::Stack);
+    check_search_refused(&[], [ROOM, STACK, TABLE, TABLE], Refusal::Size);
+    // each alone
+    check_search_refused(EXAMPLE, [ROOM, STACK, 0, 0], Refusal::Table);
+    check_search_refused(EXAMPLE, [ROOM - 1, STACK, TABLE, TABLE], Refusal::Room);
+    check_search_refused(EXAMPLE, [0, STACK, TABLE, TABLE], Refusal::Room);
+    check_search_refused(EXAMPLE, [ROOM, STACK - 1, TABLE, TABLE], Refusal::Stack);
+    check_search_refused(EXAMPLE, [ROOM, 0, TABLE, TABLE], Refusal::Stack);
+    assert_eq!(search_lent(1, [ROOM, STACK, TABLE, TABLE]).search(EXAMPLE), Ok(Ending::Solved));
+}
+
 #[test]
 fn words_and_numbers() {
     let numbers: Vec<u8> = Refusal::ALL.iter().map(|refusal| refusal.number()).collect();
-    assert_eq!(numbers, (1..=14).collect::<Vec<u8>>());
+    assert_eq!(numbers, (1..=15).collect::<Vec<u8>>());
     assert_eq!(Refusal::Mark.to_string(), "refused, 7: mark wrong");
+    assert_eq!(Refusal::Stack.to_string(), "refused, 15: stack room below 4,096 entries");
     assert_eq!(Tables::new(), Tables { forward: vec![0; TABLE].into(), backward: vec![0; TABLE].into() });
 }
