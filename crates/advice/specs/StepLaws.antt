@@ -9,20 +9,19 @@ use Rattle.told.specs.Told.{Told, refused, says, when}
 use Rattle.told.specs.ToldLaws.{neither, not-held}
 use Rattle.sizes.specs.Sizes.{tableSize, boardCells}
 use Rattle.listing.specs.Listing.{onto}
-use Rattle.listing.specs.Places.{place-length, place-member, onto-take, onto-drop}
+use Rattle.listing.specs.Places.{place-length, onto-take, onto-drop}
 use Rattle.board.specs.declared.Board.{Board}
-use Rattle.board.specs.Board.{rowAt}
 use Rattle.board.specs.Sound.{SoundBoard}
 use Rattle.board.specs.RefusalLaws.{board-sound}
 use Rattle.reader.specs.File.{boardIn}
 use Rattle.reader.specs.Reading.{fileRefuses}
 use Rattle.reader.specs.ReadingLaws.{read-sound}
-use Rattle.settling.specs.Settling.{Row, _∈_, Once, Settled, settle, Consistent}
-use Rattle.settling.specs.Settles.{settle-length, settle-largest}
+use Rattle.settling.specs.Settling.{Settled, settle, Consistent}
+use Rattle.settling.specs.Settles.{settle-length}
 use Rattle.settling.specs.Boards.{rowsOf, settleRoom}
 use Rattle.settle.specs.declared.Tally.{Tally}
 use Rattle.settle.specs.Settle.{tallyOf}
-use Rattle.settling.specs.BoardLaws.{sound-fits}
+use Rattle.settling.specs.BoardLaws.{settled-consistent}
 use Rattle.choosing.specs.Choosing.{Choice, toLowest, choose}
 use Rattle.choose.specs.AdviceLaws.{adviceOf, advice-back}
 use Rattle.advice.specs.declared.Answer.{Answer}
@@ -64,10 +63,7 @@ module _ (board : Board) where
   -- it is consistent
   pub left-consistent : SoundBoard board → Consistent (rowsOf board) (settledOf board .left)
   unfolding settledOf
-  left-consistent sound = settle-largest (rowsOf board) once (domainsOf board) .consistent
-    where
-      once : (r : Row) → r ∈ rowsOf board → Once (r .cells)
-      once r m = let i = place-member _ (board .rows) r m in rw (i .2) (sound-fits (board .cells) (rowAt (board .lines) (i .0)) (sound .lines (i .0) (i .1)) .once)
+  left-consistent sound = settled-consistent board sound (domainsOf board)
 
 -- ---- the call
 

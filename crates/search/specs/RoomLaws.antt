@@ -5,14 +5,17 @@ use Prim.Native.Nat.{ℕ, _+_, _≤_}
 use native.Mathlib.Omega.{arith}
 use borrow.Author.Tests.{ltb-false}
 use lib.Dec.{ltb}
-use lib.ListN.{length, drop, replicate, length-replicate}
+use lib.ListN.{length, take, drop, replicate, length-replicate}
+use lib.Seq.{take-length}
 use Rattle.told.specs.Told.{Told, refused, says, when}
 use Rattle.told.specs.ToldLaws.{neither, not-held}
 use Rattle.sizes.specs.Sizes.{boardCells, tableSize, stackSize}
 use Rattle.listing.specs.Listing.{onto}
 use Rattle.listing.specs.Places.{place-length, onto-all, onto-part}
 use Rattle.board.specs.declared.Board.{Board}
-use Rattle.settling.specs.Boards.{rowsOf}
+use Rattle.settling.specs.Settling.{Settled, settle}
+use Rattle.settling.specs.Settles.{settle-length}
+use Rattle.settling.specs.Boards.{rowsOf, settleRoom}
 use Rattle.advice.specs.Advising.{domainsOf, settledOf, roomsRefuse}
 use Rattle.advice.specs.StepLaws.{left-length, rooms-sound}
 use Rattle.searching.specs.Searching.{searched, needed, Ending, ends, choicesLeft}
@@ -24,9 +27,14 @@ use Rattle.search.specs.declared.inner.Verdict.the-variants as verdict
 use Rattle.search.specs.Finishing.{Word, itIsSolved, thereIsNone, itIsSpent, told, wordOf, domainsAfter, foundOn, endOf, lentRefuses, emptied, lent}
 use Rattle.search.specs.Stack.{shown, Ended, wordBy, Ran, Finished}
 
--- the board's domains stored in a slice of just the cells, and settled there
+-- in a slice of just the cells: the board's domains stored, domains settled, and the board's own settled
 pub stored-whole : (board : Board) (d new : List ℕ) → length d ≡ board .cells → new ≡ onto (domainsOf board) d → new ≡ domainsOf board
 stored-whole board d new n e = e ∙ onto-all (domainsOf board) d (place-length _ (board .cells) ∙ sym n)
+
+pub settles-whole : (board : Board) (d new : List ℕ) → length d ≡ board .cells → new ≡ onto (settleRoom board d .left) d → new ≡ settle (rowsOf board) d .left
+settles-whole board d new n e =
+    let all : settleRoom board d ≡ settle (rowsOf board) d = ap (settle (rowsOf board)) (ap (λ (k : ℕ). take k d) (sym n) ∙ take-length d) in
+    e ∙ ap (λ (s : Settled). onto (s .left) d) all ∙ onto-all (settle (rowsOf board) d .left) d (settle-length (rowsOf board) d)
 
 pub settled-whole : (board : Board) (d new : List ℕ) → length d ≡ board .cells → new ≡ onto (settledOf board .left) d → new ≡ settledOf board .left
 settled-whole board d new n e = e ∙ onto-all (settledOf board .left) d (left-length board ∙ sym n)

@@ -14,14 +14,13 @@ use lib.ListN.{length, getD, take, drop, length-drop, length-map, replicate, len
 use lib.Seq.{take-append-le, drop-append-le, length-take-le, drop-at, take-at, ext-getD}
 use Rattle.sizes.specs.Sizes.{values, boardCells, tableSize, stackSize}
 use Rattle.listing.specs.Written.{Written}
-use Rattle.listing.specs.Places.{place-length, place-member, map-at, onto-late}
+use Rattle.listing.specs.Places.{map-at, onto-late}
 use Rattle.board.specs.declared.Board.{Board}
-use Rattle.board.specs.Board.{rowAt}
 use Rattle.board.specs.Sound.{SoundBoard}
-use Rattle.settling.specs.Settling.{Row, _∈_, Once, Domains, settle, Consistent}
-use Rattle.settling.specs.Settles.{settle-length, settle-largest}
+use Rattle.settling.specs.Settling.{Row, Domains, settle}
+use Rattle.settling.specs.Settles.{settle-length}
 use Rattle.settling.specs.Boards.{rowsOf}
-use Rattle.settling.specs.BoardLaws.{sound-fits, sound-accepted}
+use Rattle.settling.specs.BoardLaws.{sound-accepted, rows-have-cells}
 use Rattle.choose.specs.Advice.{cleared}
 use Rattle.choose.specs.Steps.{SameRest}
 use Rattle.choosing.specs.Choosing.{Candidate, dead, settled, advise, toLowest, choose}
@@ -35,26 +34,9 @@ use Rattle.search.specs.declared.inner.Verdict.the-variants as verdict
 use Rattle.search.specs.Purse.{oneLeft, taken}
 use Rattle.search.specs.Stack.{level, saved, levels, Roomy, trying, UnderWay, Same, Onward, Ended}
 
--- ---- a sound board
-
-module _ (board : Board) (sound : SoundBoard board) where
-  abbrev rs : List Row
-  rs = rowsOf board
-
-  once : (r : Row) → r ∈ rowsOf board → Once (r .cells)
-  once r m = let i = place-member _ (board .rows) r m in rw (i .2) (sound-fits (board .cells) (rowAt (board .lines) (i .0)) (sound .lines (i .0) (i .1)) .once)
-
-  -- what is settled is consistent
-  pub settled-consistent : (d : List ℕ) → Consistent (rowsOf board) (settle (rowsOf board) d .left)
-  settled-consistent d = settle-largest (rowsOf board) once d .consistent
-
-  -- domains for its cells are playable
-  pub sound-playable : (d : List ℕ) → length d ≡ board .cells → Domains d → Playable (rowsOf board) d
-  sound-playable d n h =
-      record {
-        accepted = sound-accepted board sound d n h;
-        some = λ r m. let i = place-member _ (board .rows) r m in rw (i .2, place-length _ (rowAt (board .lines) (i .0) .len)) (sound .lines (i .0) (i .1) .head .some);
-      }
+-- domains for the cells of a sound board are playable
+pub sound-playable : (board : Board) → SoundBoard board → (d : List ℕ) → length d ≡ board .cells → Domains d → Playable (rowsOf board) d
+sound-playable board sound d n h = record { accepted = sound-accepted board sound d n h; some = rows-have-cells board sound }
 
 -- ---- domains cut one after another
 

@@ -7,7 +7,7 @@ use beat::Ties;
 use board::Board;
 use choose::Advice;
 use choose::inner::choose;
-use settle::inner::settle_rows;
+use settle::inner::settle;
 use sizes::BOARD_CELLS;
 use sizes::STACK;
 use sizes::VALUES;
@@ -16,7 +16,7 @@ ghost use Prim.Native.Nat.{_+_, _-_, _*_, _^_, _<_, _≤_};
 ghost use lib.ListN.{length, getD, replicate};
 ghost use Rattle.sizes.specs.Sizes.{values, boardCells, tableSize, stackSize};
 ghost use Rattle.board.specs.Sound.{SoundBoard};
-ghost use Rattle.settling.specs.Settling.{settle};
+ghost use Rattle.settling.specs.Settling.{settle as settling};
 ghost use Rattle.settling.specs.Boards.{rowsOf};
 ghost use Rattle.choosing.specs.Choosing.{toLowest, choose as choice};
 ghost use Rattle.choose.specs.Advice.{told, cleared};
@@ -47,11 +47,11 @@ pub struct Ended {
 // Settles the domains and chooses a move on them; ties go to the lowest value.
 fn look(board: Board, domains: &mut [u32], forward: &mut [u64], backward: &mut [u64]) -> Advice
     requires { ⌜ SoundBoard board × (length (now domains) ≡ board .cells) × (tableSize ≤ length (now forward)) × (tableSize ≤ length (now backward)) ⌝ }
-    ensures { λ r. ⌜ now (domains .exit) ≡ settle (rowsOf board) (now (domains .entry)) .left ⌝ }
-    ensures { λ r. ⌜ told r ≡ choice toLowest (rowsOf board) (settle (rowsOf board) (now (domains .entry)) .left) ⌝ }
+    ensures { λ r. ⌜ now (domains .exit) ≡ settling (rowsOf board) (now (domains .entry)) .left ⌝ }
+    ensures { λ r. ⌜ told r ≡ choice toLowest (rowsOf board) (settling (rowsOf board) (now (domains .entry)) .left) ⌝ }
     ensures { λ r. ⌜ (now (forward .exit) ≡ cleared (now (forward .entry))) × (now (backward .exit) ≡ cleared (now (backward .entry))) ⌝ }
 {
-    settle_rows(domains, board);
+    settle(board, domains);
     choose(Ties::Lowest, board, domains, forward, backward)
 }
 

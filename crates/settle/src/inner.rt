@@ -98,7 +98,7 @@ fn pass_rows(domains: &mut [u32], board: Board, before: Tally) -> Tally
 }
 
 // Passes until one strikes nothing.
-pub fn settle_rows(domains: &mut [u32], board: Board) -> Tally
+fn settle_rows(domains: &mut [u32], board: Board) -> Tally
     requires { ⌜ SoundBoard board × (length (now domains) ≡ board .cells) ⌝ }
     ensures { λ r. ⌜ now (domains .exit) ≡ settle (rowsOf board) (now (domains .entry)) .left ⌝ }
     ensures { λ r. ⌜ r ≡ tallyOf (settle (rowsOf board) (now (domains .entry))) ⌝ }

@@ -1,4 +1,5 @@
--- A board's record that is not refused is an accepted board; its spare places don't matter; a pass over its rows goes by places. Assumes nothing.
+-- A board's record that is not refused is an accepted board, and settles to a consistent one; its spare places don't matter; a pass over its rows goes
+-- by places. Assumes nothing.
 use mathlib.Core.Path.{_≡_, sym, _∙_}
 use mathlib.Core.List.{List}
 use Prim.Native.Nat.{ℕ, _+_, _≤_, _<_}
@@ -11,8 +12,9 @@ use Rattle.board.specs.declared.Row.{Row as Line}
 use Rattle.board.specs.declared.Board.{Board}
 use Rattle.board.specs.Board.{rowAt, SameRow, SameBoard}
 use Rattle.board.specs.Sound.{SoundLine, SoundBoard}
-use Rattle.settling.specs.Settling.{Fits, Domains, Accepted, visit, pass}
+use Rattle.settling.specs.Settling.{Row, _∈_, Fits, Domains, Accepted, visit, pass, settle, Consistent}
 use Rattle.settling.specs.Passes.{pass-more}
+use Rattle.settling.specs.Settles.{settle-largest}
 use Rattle.settling.specs.Boards.{front, rowWith, rowOf, rowsTo, rowsOf}
 
 front-length : (n : ℕ) (xs : List ℕ) → length (front n xs) ≡ n
@@ -46,12 +48,22 @@ sound-fits cells line s =
         go (no a) (yes b) = absurd (s .once q p b l (sym e))
         go (no a) (no b) = omega arith
 
-pub sound-accepted : (board : Board) → SoundBoard board → (d : List ℕ) → length d ≡ board .cells → Domains d → Accepted (rowsOf board) d
-sound-accepted board s d n h =
-    record {
-      rows = λ r m. let i = place-member _ (board .rows) r m in rw (n, i .2) (sound-fits (board .cells) (rowAt (board .lines) (i .0)) (s .lines (i .0) (i .1)));
-      domains = h;
-    }
+module _ (board : Board) (sound : SoundBoard board) where
+  rows-fit : (r : Row) → r ∈ rowsOf board → Fits (board .cells) r
+  rows-fit r m = let i = place-member _ (board .rows) r m in rw (i .2) (sound-fits (board .cells) (rowAt (board .lines) (i .0)) (sound .lines (i .0) (i .1)))
+
+  pub sound-accepted : (d : List ℕ) → length d ≡ board .cells → Domains d → Accepted (rowsOf board) d
+  sound-accepted d n h = record { rows = λ r m. rw n (rows-fit r m); domains = h }
+
+  -- each row has cells
+  pub rows-have-cells : (r : Row) → r ∈ rowsOf board → 1 ≤ length (r .cells)
+  rows-have-cells r m =
+      let i = place-member _ (board .rows) r m in
+      rw (i .2, front-length (rowAt (board .lines) (i .0) .len) (rowAt (board .lines) (i .0) .names)) (sound .lines (i .0) (i .1) .head .some)
+
+  -- what settling leaves is consistent
+  pub settled-consistent : (d : List ℕ) → Consistent (rowsOf board) (settle (rowsOf board) d .left)
+  settled-consistent d = settle-largest (rowsOf board) (λ r m. rows-fit r m .once) d .consistent
 
 -- the same boards have the same rows: spare places don't matter
 same-row : (a b : Line) → SameRow a b → rowOf a ≡ rowOf b

@@ -4,18 +4,19 @@ use borrow.Author.Needs.{needs}
 use lib.ListN.{length}
 use Rattle.settling.specs.Boards.{rowsOf}
 use Rattle.settling.specs.Settles.{settle-length}
+use Rattle.settling.specs.BoardLaws.{settled-consistent}
 use Rattle.choosing.specs.Choosing.{toLowest, choose}
-use Rattle.search.specs.StackLaws.{settled-consistent}
+use Rattle.search.specs.RoomLaws.{settles-whole}
 use Rattle.search.proofs.inner.look.Statement.{statement}
 use Rattle.search.proofs.inner.look.Tie as tie
 
-settle-rows-requires : tie.Need-settle-rows-requires
-settle-rows-requires c κs = search needs
+settle-requires : tie.Need-settle-requires
+settle-requires c κs = search needs
 
 choose-requires : tie.Need-choose-requires
 choose-requires c κs =
     let s = c .before .before .before .before .before .before .before .before .before .before in
-    let e = c .before .before .before .before .before .settle-rows .ensures .0 in
+    let e = settles-whole (s .args .board) (s .args .domains .now) _ (s .pre .1) (c .before .before .before .before .before .settle .ensures .0) in
     record {
       sound = s .pre .0;
       cells = ap length e ∙ settle-length (rowsOf (s .args .board)) (s .args .domains .now) ∙ s .pre .1;
@@ -36,11 +37,11 @@ same-length-3 c = search needs
 returns : tie.Need-returns
 returns c =
     let s = c .before .before .before .before .before .before .before .before .before .before .before .before .before .before .before in
-    let e = c .before .before .before .before .before .before .before .before .before .before .settle-rows .ensures .0 in
+    let e = settles-whole (s .args .board) (s .args .domains .now) _ (s .pre .1) (c .before .before .before .before .before .before .before .before .before .before .settle .ensures .0) in
     let chosen = c .before .before .before .before .choose .ensures in
     (e, (chosen .0 ∙ ap (choose toLowest (rowsOf (s .args .board))) e, chosen .1))
 
 pub look-spec : {M : Type 1} → statement M
 look-spec =
     tie.close
-    (tie.spec settle-rows-requires choose-requires same-length same-length-2 same-length-3 returns)
+    (tie.spec settle-requires choose-requires same-length same-length-2 same-length-3 returns)
