@@ -2,7 +2,9 @@
 use crate::row::{TABLE, reach, tables, ways};
 use std::cmp::Ordering;
 
-// What the library's tanglepunt_advise answers; kind is 0 for Dead, 1 for Settled, 2 for Advise.
+pub const CELLS: usize = 64;
+
+// What the library's tanglepunt_advise answers; kind is DEAD, SETTLED or ADVISE.
 #[repr(C)]
 #[derive(Clone, Copy, Debug, Default, PartialEq)]
 pub struct Advice {
@@ -17,6 +19,10 @@ pub struct Advice {
     pub total: u64,
     pub share: f64,
 }
+
+pub const DEAD: u8 = 0;
+pub const SETTLED: u8 = 1;
+pub const ADVISE: u8 = 2;
 
 #[derive(Clone, Copy)]
 struct Row {
@@ -37,9 +43,9 @@ impl Row {
     }
 }
 
-struct Board {
-    cells: usize,
-    domains: [u32; 64],
+pub struct Board {
+    pub cells: usize,
+    domains: [u32; CELLS],
     rows: usize,
     lines: [Row; 32],
 }
@@ -55,26 +61,27 @@ pub fn plain_advise(file: &[u8], room: &mut [u32], forward: &mut [u64], backward
 }
 
 fn advised(file: &[u8], room: &mut [u32], forward: &mut [u64], backward: &mut [u64]) -> Result<Advice, u8> {
-    check(forward.len() >= TABLE && backward.len() >= TABLE, 3)?;
-    check(room.len() >= 64, 13)?;
+    check_rooms(room, forward, backward)?;
     let board = read(file)?;
     let domains = &mut room[..board.cells];
-    domains.copy_from_slice(&board.domains[..board.cells]);
-    let (passes, struck) = settle(&board, domains);
+    let (passes, struck) = settled(&board, domains);
     let advice = choose(&board, domains, forward, backward);
-    forward[..TABLE].fill(0);
-    backward[..TABLE].fill(0);
     Ok(Advice { passes, struck, ..advice })
+}
+
+pub fn check_rooms(room: &[u32], forward: &[u64], backward: &[u64]) -> Result<(), u8> {
+    check(forward.len() >= TABLE && backward.len() >= TABLE, 3)?;
+    check(room.len() >= CELLS, 13)
 }
 
 // ---- reading: first the refusals, then the record
 
-fn read(file: &[u8]) -> Result<Board, u8> {
+pub fn read(file: &[u8]) -> Result<Board, u8> {
     test(file)?;
     let end = file.len() - 6;
     let (cells, rows) = (file[end + 2] as usize, file[end + 3] as usize);
     let zeros = Row { len: 0, low: 0, high: 0, names: [0; 10], weights: [0; 10] };
-    let mut board = Board { cells, domains: [0; 64], rows, lines: [zeros; 32] };
+    let mut board = Board { cells, domains: [0; CELLS], rows, lines: [zeros; 32] };
     for (domain, bytes) in board.domains[..cells].iter_mut().zip(file.chunks_exact(4)) {
         *domain = u32::from_le_bytes(bytes.try_into().unwrap());
     }
@@ -101,7 +108,7 @@ fn test(file: &[u8]) -> Result<(), u8> {
     let (body, trailer) = file.split_at(file.len() - 6);
     let (cells, rows) = (trailer[2] as usize, trailer[3]);
     check(trailer[4..] == [0x53, 0x4C], 7)?;
-    check((1..=64).contains(&cells) && (1..=32).contains(&rows), 8)?;
+    check((1..=CELLS).contains(&cells) && (1..=32).contains(&rows), 8)?;
     check(two(trailer, 0) == 4 * cells && 4 * cells <= body.len(), 9)?;
     let mut rest = &body[4 * cells..];
     for _ in 0..rows {
@@ -124,7 +131,7 @@ fn test_pairs(pairs: &[u8], cells: usize) -> Result<(), u8> {
     Ok(())
 }
 
-fn check(holds: bool, number: u8) -> Result<(), u8> {
+pub fn check(holds: bool, number: u8) -> Result<(), u8> {
     if holds { Ok(()) } else { Err(number) }
 }
 
@@ -134,7 +141,16 @@ fn two(bytes: &[u8], at: usize) -> usize {
 
 // ---- settling
 
-fn settle(board: &Board, domains: &mut [u32]) -> (usize, usize) {
+pub fn settled(board: &Board, domains: &mut [u32]) -> (usize, usize) {
+    store(board, domains);
+    settle(board, domains)
+}
+
+pub fn store(board: &Board, domains: &mut [u32]) {
+    domains.copy_from_slice(&board.domains[..board.cells]);
+}
+
+pub fn settle(board: &Board, domains: &mut [u32]) -> (usize, usize) {
     let (mut passes, mut struck) = (0, 0);
     loop {
         let gone: u64 = board.lines[..board.rows].iter().map(|row| visit(row, domains)).sum();
@@ -164,11 +180,18 @@ fn gather<'a>(row: &Row, domains: &[u32], part: &'a mut [u32; 10]) -> &'a mut [u
     part
 }
 
-// ---- choosing: each row's tables are filled once, and every listed value is counted from them
+// ---- choosing: each row's tables are filled once, every listed value is counted from them, and they are cleared at the end
 
-fn choose(board: &Board, domains: &[u32], forward: &mut [u64], backward: &mut [u64]) -> Advice {
+pub fn choose(board: &Board, domains: &[u32], forward: &mut [u64], backward: &mut [u64]) -> Advice {
+    let advice = chosen(board, domains, forward, backward);
+    forward[..TABLE].fill(0);
+    backward[..TABLE].fill(0);
+    advice
+}
+
+fn chosen(board: &Board, domains: &[u32], forward: &mut [u64], backward: &mut [u64]) -> Advice {
     if domains.contains(&0) {
-        return Advice::default();
+        return Advice { kind: DEAD, ..Advice::default() };
     }
     let mut best: Option<Advice> = None;
     for (i, row) in board.lines[..board.rows].iter().enumerate() {
@@ -176,12 +199,12 @@ fn choose(board: &Board, domains: &[u32], forward: &mut [u64], backward: &mut [u
         let part = gather(row, domains, &mut part);
         let total = tables(row.weights(), part, row.low, row.high, forward, backward);
         for (p, &cell) in row.names().iter().enumerate() {
-            let x = Advice { kind: 2, cell, row: i, total, ..Advice::default() };
+            let x = Advice { kind: ADVISE, cell, row: i, total, ..Advice::default() };
             best = with_place(best, x, part[p], row.weights[p], p, forward, backward);
         }
     }
     match best {
-        None => Advice { kind: 1, ..Advice::default() },
+        None => Advice { kind: SETTLED, ..Advice::default() },
         Some(x) => Advice { share: x.count as f64 / x.total as f64, ..x },
     }
 }

@@ -55,8 +55,28 @@ impl Random {
 
 const FULL: u32 = u32::MAX;
 
-pub const KINDS: [(&str, fn(&mut Random) -> Plan); 6] =
+pub type Kind = fn(&mut Random) -> Plan;
+
+pub const KINDS: [(&str, Kind); 6] =
     [("small", small), ("planted", planted), ("tight", tight), ("sudoku", sudoku), ("full", full), ("passes", passes)];
+
+// The kinds that are searched, each with the choices given. A full board needs 64, and each look at it costs an advice.
+pub const SEARCHED: [(&str, Kind, u64); 10] = [
+    ("small", small, MANY),
+    ("planted", planted, MANY),
+    ("tight", tight, MANY),
+    ("sudoku", sudoku, MANY),
+    ("full", full, 3),
+    ("passes", passes, MANY),
+    ("split", |random| market(random, true), MANY),
+    ("unsplit", |random| market(random, false), MANY),
+    ("pigeons", |_| pigeons(6, 5), MANY),
+    ("deep", deep, MANY),
+];
+pub const MANY: u64 = 300; // enough for all but some planted boards
+
+// Kinds of which every seed gives the same board.
+pub const SINGLE: [&str; 3] = ["passes", "pigeons", "deep"];
 
 // Two to six cells of a few values and one to four rows; limits lie up to four around the sums of a hidden filling.
 fn small(random: &mut Random) -> Plan {
@@ -150,6 +170,46 @@ fn ring(ahead: usize) -> Plan {
         Row { low: limits(i).0, high: limits(i).1, pairs }
     };
     Plan { domains, rows: (0..ahead).chain((ahead..32).rev()).map(row).collect() }
+}
+
+// The market split problem: two rows through ten cells of the values 0 and 1, each with random weights and both limits at half
+// their sum. Drawn until some filling is good, or until none is.
+fn market(random: &mut Random, some: bool) -> Plan {
+    loop {
+        let rows = vec![split(random), split(random)];
+        if (0..1 << 10).any(|ones| rows.iter().all(|row| splits(row, ones))) == some {
+            return Plan { domains: vec![0b11; 10], rows };
+        }
+    }
+}
+
+// Ten weights from 0 to 99; the last gives way by one where their sum is odd.
+fn split(random: &mut Random) -> Row {
+    let mut weights: Vec<usize> = (0..10).map(|_| random.below(100)).collect();
+    weights[9] ^= weights.iter().sum::<usize>() % 2;
+    let half = weights.iter().sum::<usize>() / 2;
+    Row { low: half, high: half, pairs: weights.into_iter().enumerate().collect() }
+}
+
+// Whether the cells whose bits are set have half of a row's weight.
+fn splits(row: &Row, ones: usize) -> bool {
+    row.pairs.iter().map(|(c, w)| w * (ones >> c & 1)).sum::<usize>() == row.low
+}
+
+// Cell p * holes + h is 1 where pigeon p sits in hole h: each pigeon in one hole, each hole with at most one pigeon.
+fn pigeons(pigeons: usize, holes: usize) -> Plan {
+    let of_pigeon = |p| (0..holes).map(|h| (p * holes + h, 1)).collect();
+    let of_hole = |h| (0..pigeons).map(|p| (p * holes + h, 1)).collect();
+    let mut rows: Vec<Row> = (0..pigeons).map(|p| Row { low: 1, high: 1, pairs: of_pigeon(p) }).collect();
+    rows.extend((0..holes).map(|h| Row { low: 0, high: 1, pairs: of_hole(h) }));
+    Plan { domains: vec![0b11; pigeons * holes], rows }
+}
+
+// 64 cells of which no choice settles another, so that each choice saves a level.
+fn deep(_: &mut Random) -> Plan {
+    let domains = (0..64).map(|c| if c % 2 == 0 { FULL } else { 0b11 }).collect();
+    let row = |first: usize| Row { low: 0, high: 0, pairs: (first..64.min(first + 10)).map(|c| (c, 0)).collect() };
+    Plan { domains, rows: (0..64).step_by(10).map(row).collect() }
 }
 
 // For the check only: a row of up to four cells with any weights, whose sums reach 511, as 73 times 7 does, and pass it.

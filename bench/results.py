@@ -19,6 +19,19 @@ class Cost:
     rust: int
 
 
+@dataclass
+class Search:
+    """The same of one search: the choices followed, and of the library's instructions those that its steps took."""
+
+    ending: str
+    followed: int
+    library: int
+    rust: int
+    settling: int
+    choosing: int
+    reading: int
+
+
 def lines(what):
     """The stored lines that begin with a word, as the words after it."""
     with open(os.path.join(HERE, "results.txt")) as stored:
@@ -31,6 +44,14 @@ def costs(what):
     for name, number, passes, struck, answer, library, rust in lines(what):
         cost = Cost(name, int(number), int(passes), int(struck), answer, int(library), int(rust))
         found.setdefault(name, []).append(cost)
+    return found
+
+
+def searches():
+    """The searches by kind, in the order in which they were measured."""
+    found = {}
+    for name, _, ending, *numbers in lines("search"):
+        found.setdefault(name, []).append(Search(ending, *map(int, numbers)))
     return found
 
 

@@ -3,7 +3,7 @@
 import os
 import re
 
-from results import HERE, costs, growth, lines
+from results import HERE, costs, growth, lines, searches
 
 README = os.path.join(HERE, "README.md")
 
@@ -56,12 +56,36 @@ def wide_table():
     return table(["kind", "Rust, x86-64-v3", "ratio"], body)
 
 
-def inside_table():
+def function_table(word, *kinds):
+    """The instructions by function on one board of each of some kinds."""
     found = {}
-    for kind, whose, name, number in lines("inside"):
+    for kind, whose, name, number in lines(word):
         found.setdefault((whose, name), {})[kind] = thousands(int(number))
-    body = [[whose, f"`{name}`", by.get("full", ""), by.get("passes", "")] for (whose, name), by in sorted(found.items())]
-    return table(["", "function", "full", "passes"], body)
+    body = [[whose, f"`{name}`", *(by.get(kind, "") for kind in kinds)] for (whose, name), by in sorted(found.items())]
+    return table(["", "function", *kinds], body)
+
+
+def search_table():
+    body = []
+    for name, boards in searches().items():
+        endings = [search.ending for search in boards]
+        ended = ", ".join(f"{endings.count(ending)} {ending}" for ending in dict.fromkeys(endings))
+        followed = [search.followed for search in boards]
+        library, rust = averages(boards)
+        rates = [f"{1e6 * sum(followed) / len(boards) / cost:.3f}" for cost in (library, rust)]
+        body.append([name, ended, span(followed), thousands(library), thousands(rust), f"{library / rust:.3f}", *rates])
+    head = ["kind", "ended", "choices", "library", "Rust -O", "ratio", "per million, library", "per million, Rust"]
+    return table(head, body)
+
+
+def step_table():
+    """What part of the library's instructions each step of a search took."""
+    steps, body = ["settling", "choosing", "reading"], []
+    for name, boards in searches().items():
+        whole = sum(search.library for search in boards)
+        parts = [sum(getattr(search, step) for search in boards) for step in steps]
+        body.append([name, *(f"{100 * part / whole:.2f}%" for part in [*parts, whole - sum(parts)])])
+    return table(["kind", *steps, "levels and the rest"], body)
 
 
 def growth_table():
@@ -89,12 +113,22 @@ def machine():
     return f"Measured {' '.join(lines('#')[0])}.\n"
 
 
+def search_machine():
+    """Where and when, if the searches were measured apart: then a second such line stands before theirs."""
+    apart = "Measured apart from the rest, with a library that has the search:"
+    return "".join(f"{apart} {' '.join(when)}.\n" for when in lines("#")[1:])
+
+
 TABLES = {
     "machine": machine,
     "kinds": kind_table,
-    "inside": inside_table,
+    "inside": lambda: function_table("inside", "full", "passes"),
     "wide": wide_table,
     "growth": growth_table,
+    "search machine": search_machine,
+    "search": search_table,
+    "steps": step_table,
+    "within": lambda: function_table("within", "planted", "pigeons"),
     "speed": speed_table,
     "rows": row_table,
 }

@@ -6,9 +6,10 @@ import sys
 
 sys.path.insert(0, os.path.join(os.path.dirname(os.path.abspath(__file__)), "..", "second"))
 import boards
-from wire import AT_END, AT_FRONT, KINDS, OWN, Case, Slice, record, room
+import choices
+from wire import AT_END, AT_FRONT, CHOICES, KINDS, OWN, Case, Slice, record, room
 
-SHARES = dict(rank=12, total=11, count=11, strike=12, begin=2, read=8, read_at=8, board_counts=3, write=11, advise=22)
+SHARES = dict(rank=12, total=11, count=11, strike=12, begin=2, read=8, read_at=8, board_counts=3, write=11, advise=22, search=8)
 WEIGHTS = [SHARES[kind] for kind in KINDS]
 PICKS = [[0], [1], [0, 1], [1, 2], [1, 2, 3], [0, 1, 2, 7], [2, 3, 4], [5, 11, 40], [0, 1, 254, 255], range(256)]
 NEARLY_ALL = [(w, v) for w in range(256) for v in range(2, 32) if w * v in (104, 105)]  # seven values of 15 add up to 105
@@ -180,10 +181,25 @@ def read_at_case(source, kind):
     return Case(kind, [place], [Slice("file", 1, data)])
 
 
+def domain_room(source):
+    return room(source, "room", 4, source.choices([64, 70, 63, 0, source.randrange(100)], [60, 33, 2, 2, 3])[0])
+
+
 def advise_case(source, kind):
-    entries = source.choices([64, 70, 63, 0, source.randrange(100)], [60, 33, 2, 2, 3])[0]
-    rooms = [room(source, "room", 4, entries), table(source, "forward"), table(source, "backward")]
+    rooms = [domain_room(source), table(source, "forward"), table(source, "backward")]
     return Case(kind, [], [Slice("file", 1, any_file(source)), *rooms])
+
+
+def stack_room(source):
+    entries = [4096, 4097 + source.randrange(4096), 4095, 0, source.randrange(4096)]
+    return room(source, "stack", 4, source.choices(entries, [60, 33, 2, 2, 3])[0])
+
+
+def search_case(source, kind):
+    data = boards.searched(source)[1] if source.random() < 0.7 else any_file(source)
+    number = source.choice([*choices.numbers(source, data), source.randrange(12)])
+    rooms = [domain_room(source), stack_room(source), table(source, "forward"), table(source, "backward")]
+    return Case(kind, [], [Slice("file", 1, data), Slice("choices", 8, CHOICES.pack(number), True), *rooms])
 
 
 # ---- records
@@ -234,7 +250,7 @@ def write_case(source, kind):
 
 
 MAKERS = dict(rank=rank_case, total=row_case, count=row_case, strike=row_case, begin=file_case, read=file_case)
-MAKERS |= dict(read_at=read_at_case, board_counts=file_case, write=write_case, advise=advise_case)
+MAKERS |= dict(read_at=read_at_case, board_counts=file_case, write=write_case, advise=advise_case, search=search_case)
 
 
 def make(seed, k):

@@ -16,10 +16,10 @@
 #include <string.h>
 #include <sys/mman.h>
 
-enum { RANK, TOTAL, COUNT, STRIKE, BEGIN, READ, READ_AT, BOARD_COUNTS, WRITE, ADVISE };
+enum { RANK, TOTAL, COUNT, STRIKE, BEGIN, READ, READ_AT, BOARD_COUNTS, WRITE, ADVISE, SEARCH };
 enum { AT_END, AT_FRONT, OWN };                     /* where a slice stands in its arena, or a block of its own */
 enum { OUTSIDE_CHANGED = 3, INPUT_CHANGED = 4, BAD_STREAM = 5 };
-enum { SLICES = 4, NUMBERS = 6, CANARY = 4096, SPACE = 1 << 17, GUARD = 1 << 20, FRAME = 1 << 18 };
+enum { SLICES = 6, NUMBERS = 6, CANARY = 4096, SPACE = 1 << 17, GUARD = 1 << 20, FRAME = 1 << 18 };
 
 typedef struct {
     const uint8_t *held;                            /* what it holds before the call */
@@ -211,6 +211,12 @@ static void put_advice(tanglepunt_advice r)
     put(&r.share, 8);
 }
 
+static void put_ending(tanglepunt_ending r)
+{
+    put_number(r.refused, 1);
+    put_number(r.ending, 1);
+}
+
 /* ---- stand-ins for tanglepunt_total, each wrong in one way, not instrumented, as the archive isn't */
 
 typedef tanglepunt_number total_call(const uint8_t *, size_t, const uint32_t *, size_t, uint64_t, uint64_t,
@@ -311,6 +317,7 @@ static void make_call(const call *c)
     case BOARD_COUNTS: put_counts(tanglepunt_board_counts(LENT(0))); break;
     case WRITE: put_answer_number(tanglepunt_write(take_board(s[0].at), LENT(1))); break;
     case ADVISE: put_advice(tanglepunt_advise(LENT(0), LENT(1), LENT(2), LENT(3))); break;
+    case SEARCH: put_ending(tanglepunt_search(LENT(0), s[1].at, LENT(2), LENT(3), LENT(4), LENT(5))); break;
     default: stop(BAD_STREAM, "no call of kind", c->kind);
     }
 #undef LENT

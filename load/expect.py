@@ -1,5 +1,5 @@
-"""What each call must answer and leave, from document 01 alone: rows by products of polynomials and by sets of sums in
-Python's integers, fractions by products, files and boards by the second program.
+"""What each call must answer and leave, from documents 01 and 02 alone: rows by products of polynomials and by sets of sums
+in Python's integers, fractions by products, files and boards by the second program.
 
 A polynomial is one integer of 512 slots of 64 bits; slot b holds the coefficient of x to the b, higher powers are cut off.
 No coefficient exceeds 32 to the tenth, so no slot runs over into the next.
@@ -13,10 +13,12 @@ from functools import reduce
 from itertools import accumulate, product
 
 sys.path.insert(0, os.path.join(os.path.dirname(os.path.abspath(__file__)), "..", "second"))
+import boards
 import report
+import search
 import wire
 
-SUMS, SLOT, TABLE = 512, 64, 5632
+SUMS, SLOT, TABLE, STACK = 512, 64, 5632, 4096
 WHOLE = (1 << SUMS * SLOT) - 1
 LISTED = [[v for v in range(8) if byte >> v & 1] for byte in range(256)]
 
@@ -245,36 +247,58 @@ def write_call(case):
     return [wire.NUMBER.pack(0, len(written)), onto(written, room)]
 
 
-# ---- advice, by the second program's settling and choice
+# ---- board calls, by the second program's settling, choice and search
 
 
-def advise_refuses(room, ahead, behind):
-    return first((min(len(ahead), len(behind)) < 8 * TABLE, 3), (len(room) < 4 * 64, 13))
+def taken(data, *tests):
+    """The refusal by the rooms' tests or else by the file, and the board, None where it is refused."""
+    refusal = first(*tests)
+    if refusal:
+        return refusal, None
+    try:
+        return 0, report.read(data)
+    except report.Refused as refused:
+        return *refused.args, None
 
 
-def move(told):
-    """The second program's last line as kind, cell, value, row, count, total and share."""
-    if told in ("DEAD", "SETTLED"):
-        return [("DEAD", "SETTLED").index(told), 0, 0, 0, 0, 0, 0.0]
-    cell, value, row, ways, whole = map(int, told.split()[2::2])
-    return [2, cell, value, row, ways, whole, float(ways) / float(whole)]
+def tables_and_room(room, ahead, behind):
+    """What every board call tests first."""
+    return (min(len(ahead), len(behind)) < 8 * TABLE, 3), (len(room) < 4 * 64, 13)
+
+
+def with_domains(domains, room):
+    return onto(struct.pack(f"<{len(domains)}I", *map(bits, domains)), room)
+
+
+def move_fields(advised):
+    """The second program's move as kind, cell, value, row, count, total and share."""
+    if advised in ("DEAD", "SETTLED"):
+        return [("DEAD", "SETTLED").index(advised), 0, 0, 0, 0, 0, 0.0]
+    *_, ways, whole = advised
+    return [2, *advised, float(ways) / float(whole)]
 
 
 def advise_call(case):
     data, room, ahead, behind = [s.data for s in case.slices]
-    refusal = advise_refuses(room, ahead, behind)
-    if not refusal:
-        try:
-            domains, board = report.read(data)
-        except report.Refused as refused:
-            (refusal,) = refused.args
+    refusal, read = taken(data, *tables_and_room(room, ahead, behind))
     if refusal:
         return [wire.ADVICE.pack(refusal, *[0] * 9), room, ahead, behind]
+    domains, board = read
     domains, passes, struck = report.settle(domains, board)
-    kind, *rest = move(report.advice(domains, board))
-    settled = struct.pack(f"<{len(domains)}I", *map(bits, domains))
-    zeros = bytes(8 * TABLE)
-    return [wire.ADVICE.pack(0, kind, passes, struck, *rest), onto(settled, room), onto(zeros, ahead), onto(zeros, behind)]
+    kind, *rest = move_fields(report.move(domains, board))
+    answer, zeros = wire.ADVICE.pack(0, kind, passes, struck, *rest), bytes(8 * TABLE)
+    return [answer, with_domains(domains, room), onto(zeros, ahead), onto(zeros, behind)]
+
+
+def search_call(case):
+    data, number, room, stack, ahead, behind = [s.data for s in case.slices]
+    refusal, read = taken(data, *tables_and_room(room, ahead, behind), (len(stack) < 4 * STACK, 15))
+    if refusal:
+        return [wire.ENDING.pack(refusal, 0), number, room, stack, ahead, behind]
+    ending, domains, purse = search.search(*read, *wire.CHOICES.unpack(number))
+    answer, zeros = wire.ENDING.pack(0, ("SOLVED", "NONE", "SPENT").index(ending)), bytes(8 * TABLE)
+    levels = onto(bytes(4 * STACK), stack)
+    return [answer, wire.CHOICES.pack(purse.left), with_domains(domains, room), levels, onto(zeros, ahead), onto(zeros, behind)]
 
 
 CALLS = {kind: globals()[kind + "_call"] for kind in wire.KINDS}
@@ -285,7 +309,7 @@ def answer(case):
     return b"".join(CALLS[case.kind](case))
 
 
-# ---- this file held to document 01's definitions: every filling written out
+# ---- rows here and the second program's search held to the documents' definitions: every filling written out
 
 
 def check_row(weights, domains, low, high):
@@ -307,8 +331,16 @@ def check_row(weights, domains, low, high):
     return len(good)
 
 
+def check_search(domains, board):
+    """Given choices enough, Solved comes with one of the board's fillings where there is one, and None where there is none."""
+    meets = lambda f, row: row[0] <= sum(w * f[c] for c, w in row[2]) <= row[1]
+    good = [f for f in product(*domains) if all(meets(f, row) for row in board)]
+    ending, left, _ = search.search(domains, board, 2**64 - 1)
+    assert ending == "NONE" and not good or ending == "SOLVED" and tuple(v for (v,) in left) in good
+
+
 def check():
-    """Document 01's examples, P1 to P10 and those of rows and fractions that are run; then rows of any shape."""
+    """Document 01's examples, P1 to P10 and those of rows and fractions that are run; then rows and boards of any shape."""
     figure = [3, 1, 2, 1], [0b111, 0b1011, 0b111, 0b110], 5, 8
     every = 2**32 - 1
     assert check_row(*figure) == 22
@@ -325,3 +357,4 @@ def check():
         domains = [sum(1 << v for v in source.sample(range(32), 4)) for _ in range(source.randint(1, 4))]
         weights = [source.choice([0, 1, 3, source.randrange(256)]) for _ in domains]
         check_row(weights, domains, *sorted([source.randrange(512), source.randrange(512)]))
+        check_search(*source.choice([boards.small, boards.ties, boards.split])(source))

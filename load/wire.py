@@ -2,13 +2,14 @@
 import random
 import struct
 
-KINDS = ["rank", "total", "count", "strike", "begin", "read", "read_at", "board_counts", "write", "advise"]
+KINDS = ["rank", "total", "count", "strike", "begin", "read", "read_at", "board_counts", "write", "advise", "search"]
 AT_END, AT_FRONT, OWN = range(3)
 
 # how each answer is laid out: its fields in the struct's order, without padding
-NUMBER, ORDER, COUNTS, PLACE, ADVICE = map(struct.Struct, ["<BQ", "<BB", "<BQQ", "<Q", "<BBQQQQQQQd"])
+NUMBER, ORDER, COUNTS, PLACE, ADVICE, ENDING = map(struct.Struct, ["<BQ", "<BB", "<BQQ", "<Q", "<BBQQQQQQQd", "<BB"])
+CHOICES = struct.Struct("<Q")  # the number that is lent to a search, as room of one entry
 BOARD, ROW = struct.Struct("<Q64IQ"), struct.Struct("<13Q10B")
-LAYOUT = {"rank": ORDER, "begin": PLACE, "board_counts": COUNTS, "advise": ADVICE, "read": None, "read_at": None}
+LAYOUT = {"rank": ORDER, "begin": PLACE, "board_counts": COUNTS, "advise": ADVICE, "search": ENDING, "read": None, "read_at": None}
 
 # what every room is filled from: the same bytes in every run, no two places alike
 BLOCK = random.Random("block").randbytes(1 << 16)

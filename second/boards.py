@@ -101,8 +101,8 @@ def dead(random):
     return domains, board
 
 
-def loose_cells(random):
-    domains, board = planted(random)
+def loose_cells(random, shape=planted):
+    domains, board = shape(random)
     return domains + some(random, random.randint(1, 5), 5, 0), board
 
 
@@ -125,8 +125,55 @@ def extreme_numbers(random):
     return some(random, cells, random.choice([1, 4, 32])), [(low, random.choice([low, 511]), pairs)]
 
 
+def crossed(random):
+    """Exact rows through many of the same cells, all met by one filling, or each by its own and perhaps all by none."""
+    domains = [set(random.sample(range(6), random.randint(2, 4))) for _ in range(random.randint(6, 10))]
+    filling = lambda: [random.choice(sorted(d)) for d in domains]
+    rows = random.randint(3, 5)
+    hidden = [filling()] * rows if random.randint(0, 1) else [filling() for _ in range(rows)]
+    return domains, [planted_row(random, h, random.randint(5, 8), [1, 2, 3], 0) for h in hidden]
+
+
+def crossed_and_loose(random):
+    return loose_cells(random, crossed)
+
+
+def split(random):
+    """A market split: exact rows through the same ten cells of 0 and 1, at the sums of five cells or at half of all weights."""
+    five = random.sample([0, 1] * 5, 10) if random.randint(0, 1) else None
+    heaviest = random.choice([5, 9, 20, 99])
+    board = []
+    for _ in range(random.randint(2, 3)):
+        weights = [random.randint(0, heaviest) for _ in range(10)]
+        target = sum(w * v for w, v in zip(weights, five)) if five else sum(weights) // 2
+        board.append((target, target, list(enumerate(weights))))
+    return [{0, 1} for _ in range(10)], board
+
+
+def pigeons_in_holes(pigeons, holes):
+    """Cell p * holes + q is 1 where pigeon p sits in hole q: each pigeon in one hole, each hole with at most one pigeon."""
+    board = [(1, 1, [(p * holes + q, 1) for q in range(holes)]) for p in range(pigeons)]
+    board += [(0, 1, [(p * holes + q, 1) for p in range(pigeons)]) for q in range(holes)]
+    return [{0, 1} for _ in range(pigeons * holes)], board
+
+
+def pigeons(random):
+    """Often a pigeon too many, and some holes that a pigeon may not take."""
+    holes = random.randint(2, 5)
+    domains, board = pigeons_in_holes(holes + random.randint(0, 1), holes)
+    return [d if random.random() < 0.9 else {0} for d in domains], board
+
+
+def deep(random):
+    """Rows of weight 0, so that no choice settles another cell: one choice for each cell that has several values."""
+    cells = random.sample(range(64), random.randint(11, 64))
+    board = [(0, 511, [(c, 0) for c in cells[k : k + 5]]) for k in range(0, len(cells), 5)]
+    return some(random, 64, 3), board
+
+
 COMMON = [small, planted, tight, weight_0, ties, many_passes, dead, loose_cells, single_values, extreme_numbers]
 RARE = [huge_totals, near_shares, full_size]
+SEARCHED = {crossed: 5, crossed_and_loose: 4, split: 5, pigeons: 3, deep: 1}  # shapes that mostly take choices, and how often each
 
 
 def write(domains, board):
@@ -143,6 +190,14 @@ def write(domains, board):
 def sound(random):
     """A shape's name and a sound file of it."""
     shape = random.choice(RARE) if random.random() < 0.02 else random.choice(COMMON)
+    return shape.__name__, write(*shape(random))
+
+
+def searched(random):
+    """As `sound`, mostly of shapes that take choices."""
+    if random.random() < 0.3:
+        return sound(random)
+    (shape,) = random.choices(list(SEARCHED), SEARCHED.values())
     return shape.__name__, write(*shape(random))
 
 

@@ -109,7 +109,8 @@ def settle(domains, board):
             return domains, passes, struck
 
 
-def advice(domains, board):
+def move(domains, board):
+    """The advised move as cell, value, row, count and total; DEAD or SETTLED where there is none."""
     if not all(domains):
         return "DEAD"
     best = None
@@ -124,22 +125,36 @@ def advice(domains, board):
     if best is None:
         return "SETTLED"
     (_, cell, value, line), n, whole = best
-    return f"ADVICE CELL {cell} VALUE {value} LINE {line} COUNT {n} TOTAL {whole}"
+    return cell, value, line, n, whole
+
+
+def advice(domains, board):
+    """The report's last line."""
+    advised = move(domains, board)
+    if advised in ("DEAD", "SETTLED"):
+        return advised
+    return "ADVICE CELL {} VALUE {} LINE {} COUNT {} TOTAL {}".format(*advised)
+
+
+def cell_lines(domains):
+    """A line for each cell, its values rising."""
+    return [f"CELL {cell} VALUES {' '.join(map(str, sorted(values))) or 'NONE'}" for cell, values in enumerate(domains)]
+
+
+def text(lines):
+    """Lines as a program prints them."""
+    return "".join(line + "\n" for line in lines)
 
 
 def report(data):
     try:
         domains, board = read(data)
     except Refused as refusal:
-        return f"REFUSED {refusal}\n"
+        return text([f"REFUSED {refusal}"])
     domains, passes, struck = settle(domains, board)
-    lines = [f"CELLS {len(domains)} LINES {len(board)}", f"PASSES {passes} STRUCK {struck}"]
-    for cell, values in enumerate(domains):
-        lines.append(f"CELL {cell} VALUES {' '.join(map(str, sorted(values))) or 'NONE'}")
-    for line, row in enumerate(board):
-        lines.append(f"LINE {line} TOTAL {total(row, domains)}")
-    lines.append(advice(domains, board))
-    return "".join(line + "\n" for line in lines)
+    lines = [f"CELLS {len(domains)} LINES {len(board)}", f"PASSES {passes} STRUCK {struck}", *cell_lines(domains)]
+    lines += [f"LINE {line} TOTAL {total(row, domains)}" for line, row in enumerate(board)]
+    return text([*lines, advice(domains, board)])
 
 
 if __name__ == "__main__":

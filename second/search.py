@@ -1,53 +1,76 @@
 #!/usr/bin/env python3
-"""The search of a board file, written from request R-1 alone: a recursion, and the choices counted down as it goes.
+"""The search that finishes a board, written from request R-1 alone: a function that calls itself for the branch of each choice
+and counts the choices down as it goes.
 
 usage: search.py CHOICES < FILE
 """
 import sys
-from report import Refused, advice, read, settle
+
+from report import Refused, cell_lines, move, read, settle, text
 
 
 class Spent(Exception):
-    """A choice was needed, and none remained."""
+    """An advice is to be followed, and no choice remains."""
 
 
-def search(domains, board, purse):
-    """A filling, or None; purse is a list with the number of choices that remain."""
-    domains, _, _ = settle(domains, board)
-    said = advice(domains, board)
-    if said == "DEAD":
-        return None
-    if said == "SETTLED":
-        return [min(d) for d in domains]
-    words = said.split()
-    cell, value = int(words[2]), int(words[4])
-    if purse[0] == 0:
-        raise Spent
-    purse[0] -= 1
-    found = search([{value} if c == cell else d for c, d in enumerate(domains)], board, purse)
-    if found is not None:
-        return found
-    return search([d - {value} if c == cell else d for c, d in enumerate(domains)], board, purse)
+class Purse:
+    """The choices that remain, how many were followed, and how many of these led to no filling."""
+
+    def __init__(self, choices):
+        self.left, self.followed, self.failed = choices, 0, 0
+
+    def follow(self):
+        if self.left == 0:
+            raise Spent
+        self.left -= 1
+        self.followed += 1
 
 
-def line(data, choices):
-    """The line that the program `run_search` prints for so many choices."""
-    purse = [choices]
+def put(domains, cell, values):
+    return [values if c == cell else d for c, d in enumerate(domains)]
+
+
+def filling(domains, board, purse):
+    """A value for each cell, or None where these domains hold no filling."""
+    while True:
+        domains, _, _ = settle(domains, board)
+        advised = move(domains, board)
+        if advised == "DEAD":
+            return None
+        if advised == "SETTLED":
+            # only a cell in no row can have several values: it takes the lowest
+            return [min(values) for values in domains]
+        cell, value = advised[:2]
+        purse.follow()
+        found = filling(put(domains, cell, {value}), board, purse)
+        if found is not None:
+            return found
+        purse.failed += 1
+        domains = put(domains, cell, domains[cell] - {value})
+
+
+def search(domains, board, choices):
+    """SOLVED, NONE or SPENT; the filling as domains, or else the settled domains before any choice; the purse as it then is."""
+    purse = Purse(choices)
+    settled, _, _ = settle(domains, board)
+    try:
+        found = filling(domains, board, purse)
+    except Spent:
+        return "SPENT", settled, purse
+    if found is None:
+        return "NONE", settled, purse
+    return "SOLVED", [{value} for value in found], purse
+
+
+def printed(data, choices):
+    """What the search program prints for a file and so many choices, and whether the search went back."""
     try:
         domains, board = read(data)
     except Refused as refusal:
-        return f"  ALLOWED {choices} REFUSED {refusal} REMAIN {choices}"
-    settled, _, _ = settle(domains, board)
-    try:
-        found = search(domains, board, purse)
-        word = "NONE" if found is None else "SOLVED"
-    except Spent:
-        found, word = None, "SPENT"
-    left = settled if found is None else [{v} for v in found]
-    cells = "".join("," + "".join(f" {v}" for v in sorted(d)) for d in left)
-    return f"  ALLOWED {choices} {word} REMAIN {purse[0]}{cells}"
+        return text([f"REFUSED {refusal}"]), False
+    ending, left, purse = search(domains, board, choices)
+    return text([f"{ending} FOLLOWED {purse.followed} LEFT {purse.left}", *cell_lines(left)]), purse.failed > 0
 
 
 if __name__ == "__main__":
-    sys.setrecursionlimit(10000)
-    print(line(sys.stdin.buffer.read(), int(sys.argv[1])))
+    sys.stdout.write(printed(sys.stdin.buffer.read(), int(sys.argv[1]))[0])
