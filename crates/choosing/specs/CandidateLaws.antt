@@ -10,7 +10,7 @@ use lib.ListN.{length, getD}
 use borrow.Author.Tests.{ltb-true, lt-ltb, le-ltb}
 use Rattle.sizes.specs.Sizes.{values, rowCells}
 use Rattle.listing.specs.Listing.{keep, below}
-use Rattle.listing.specs.Members.{in-below, below-small, only-in, in-only, flat-in, in-flat, map-only, at-in}
+use Rattle.listing.specs.Members.{in-below, below-small, flat-in, in-flat, map-only, at-in}
 use Rattle.counting.specs.Counting.{lists, listed}
 use Rattle.counting.specs.Domains.{listed-in, in-listed}
 use Rattle.counting.specs.Counts.{count-total}

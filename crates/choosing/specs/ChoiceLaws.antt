@@ -14,7 +14,7 @@ use Rattle.sizes.specs.Sizes.{values, rowCells}
 use Rattle.listing.specs.Sums.{never}
 use Rattle.listing.specs.Members.{at-in, in-at}
 use Rattle.counting.specs.Counting.{lists, listed}
-use Rattle.counting.specs.Domains.{listed-in, in-listed, lists-one}
+use Rattle.counting.specs.Domains.{listed-in, lists-one}
 use Rattle.settling.specs.Settling.{Row, _∈_, Accepted, settle, Consistent}
 use Rattle.settling.specs.Demand3.{largest-family, left-accepted}
 use Rattle.fraction.specs.Share.{shareOf}

@@ -1,6 +1,6 @@
 -- What the board call `search` refuses, what it says, and what it leaves in what it is lent. Definitions only.
--- file are the bytes of a board file; choices is the number allowed; room, stack, forward and backward are the domain room, the stack room and
--- the two tables at entry.
+-- file are the bytes of a board file; choices is the number given; room, stack, forward and backward are the domain room, the stack room and the two
+-- tables at entry.
 use mathlib.Core.List.{List}
 use Prim.Native.Nat.{ℕ, _-_}
 use lib.Dec.{ltb}
@@ -75,7 +75,7 @@ searchSays file choices room stack forward backward =
 unfoldable pub emptied : List ℕ → List ℕ
 emptied stack = onto (replicate stackSize 0) stack
 
--- the choices that remain, the domain room, the stack room and both tables
+-- the number of choices, the domain room, the stack room and both tables
 pub record Lent : Type 0 where
   pub choices : ℕ
   pub room : List ℕ
@@ -87,7 +87,8 @@ abbrev pub lent : ℕ → List ℕ → List ℕ → List ℕ → List ℕ → Le
 lent choices room stack forward backward =
     record { choices = choices; room = room; stack = stack; forward = forward; backward = backward }
 
--- after a refusal what was lent; else the choices less those needed (none remain after Spent), the filling or the settled domains at the front of the room, and zeros
+-- after a refusal what was lent; else the choices given less those needed, which is none after Spent, the filling or the settled domains at the front of
+-- the room, and zeros
 abbrev pub searchLeaves : List ℕ → ℕ → List ℕ → List ℕ → List ℕ → List ℕ → Lent
 searchLeaves file choices room stack forward backward =
     leave (searchRefuses file room stack forward backward) (lent choices room stack forward backward)

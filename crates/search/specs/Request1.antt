@@ -2,12 +2,12 @@
 -- n is the number of choices given.
 use mathlib.Core.Path.{_≡_, refl, sym, ap, _∙_}
 use mathlib.Core.Logic.{_≢_}
-use mathlib.Core.List.{List, map}
+use mathlib.Core.List.{List}
 use Prim.Native.Nat.{ℕ, _+_, _*_, _^_, _≤_, _<_}
 use native.Mathlib.Decide.{decLt}
 use native.Mathlib.Omega.{arith}
 use lib.ListN.{length, getD, take, length-map, List·getD-eq-default}
-use Rattle.told.specs.Told.{Told, refused, says, answer, leave}
+use Rattle.told.specs.Told.{Told, refused, says, answer}
 use Rattle.told.specs.ToldLaws.{neither}
 use Rattle.sizes.specs.Sizes.{values, boardCells}
 use Rattle.listing.specs.Listing.{onto}

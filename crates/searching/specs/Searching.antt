@@ -8,7 +8,7 @@ use lib.Dec.{ltb}
 use lib.ListN.{length, getD, set}
 use Rattle.counting.specs.Counting.{listed, size}
 use Rattle.settling.specs.Settling.{Row, _∈_, Accepted, settle, BoardFilling}
-use Rattle.choosing.specs.Choosing.{Choice, dead, settled, advise, toLowest, choose}
+use Rattle.choosing.specs.Choosing.{dead, settled, advise, toLowest, choose}
 
 -- ---- fillings as domains
 
