@@ -40,6 +40,25 @@ def text(x, y, words, size=15, colour="#222", anchor="middle", more=""):
     return f'<text x="{x:g}" y="{y:g}" font-size="{size}" fill="{colour}" text-anchor="{anchor}"{more}>{words}</text>'
 
 
+def svg(width, height, parts):
+    head = f'<svg xmlns="http://www.w3.org/2000/svg" viewBox="0 0 {width} {height}" font-family="DejaVu Sans, Verdana, sans-serif">'
+    return "\n".join([head, f'<rect width="{width}" height="{height}" fill="white"/>', *parts, "</svg>\n"])
+
+
+def content(name):
+    with open(os.path.join(here, name), encoding="utf-8") as f:
+        return f.read()
+
+
+def keep(name, drawn):
+    """Writes a picture; with --check only says where it is another than stands there."""
+    if "--check" not in sys.argv:
+        with open(os.path.join(here, name), "w", encoding="utf-8") as f:
+            f.write(drawn)
+    elif content(name) != drawn:
+        sys.exit(f"{name} is not what its script draws")
+
+
 def draw_sums():
     """The sums at the left, and the limits behind the last layer."""
     x, top = place(len(WEIGHTS), HIGH)
@@ -90,8 +109,7 @@ def drawing(found):
         parts += draw_arc(*arc)
     for where, numbers in found.items():
         parts += draw_vertex(*where, *numbers)
-    head = f'<svg xmlns="http://www.w3.org/2000/svg" viewBox="0 0 {WIDTH} {HEIGHT}" font-family="DejaVu Sans, Verdana, sans-serif">'
-    return "\n".join([head, f'<rect width="{WIDTH}" height="{HEIGHT}" fill="white"/>', *parts, "</svg>\n"])
+    return svg(WIDTH, HEIGHT, parts)
 
 
 def counts(found):
@@ -108,19 +126,12 @@ def counts(found):
 
 def main():
     found = vertices(*tanglepunt.tables(WEIGHTS, DOMAINS, LOW, HIGH))
-    table, drawn = list(counts(found)), drawing(found)
-    with open(os.path.join(here, "figure.md"), encoding="utf-8") as f:
-        page = f.read().splitlines()
-    path = os.path.join(here, "figure.svg")
+    table, page = list(counts(found)), content("figure.md").splitlines()
     if "--counts" in sys.argv:
         print("\n".join(table))
-    elif "--check" not in sys.argv:
-        with open(path, "w", encoding="utf-8") as f:
-            f.write(drawn)
-    else:
-        with open(path, encoding="utf-8") as f:
-            if f.read() != drawn:
-                sys.exit("figure.svg is not what figure.py draws")
+        return
+    keep("figure.svg", drawing(found))
+    if "--check" in sys.argv:
         if [line for line in table if line not in page]:
             sys.exit("figure.md has other counts than the library")
         print(f"figure.svg is drawn from the library's tables: {len(found)} vertices, {sum(1 for _ in arcs(found))} arcs; the page's counts are the library's")

@@ -1,4 +1,5 @@
-"""The report on a board by a small reference implementation: the right idea, and each wrong one as the same with one method changed."""
+"""The report on a board, and the search that finishes it, by a small reference implementation: the right idea, and each wrong one as the
+same with one method changed."""
 import os
 import sys
 from fractions import Fraction
@@ -6,6 +7,7 @@ from fractions import Fraction
 here = os.path.dirname(os.path.abspath(__file__))
 sys.path.insert(0, os.path.join(here, "..", "..", "second"))
 import report as second
+import search as second_search
 
 
 class Right:
@@ -27,6 +29,10 @@ class Right:
 
     def share(self, count, total):
         return Fraction(count, total)
+
+    def left_out(self, removed):
+        """Where a branch of the search holds no filling: the cells and values that go, of those removed so far; None ends the search."""
+        return removed[-1:]
 
 
 class Span(Right):
@@ -59,7 +65,18 @@ class Doubles(Right):
         return count / total
 
 
+class OneBranch(Right):
+    def left_out(self, removed):
+        return None
+
+
+class EveryLevel(Right):
+    def left_out(self, removed):
+        return removed
+
+
 WRONG = {"span": Span(), "one-arc": OneArc(), "folded": Folded(), "pinned": Pinned(), "skipped": Skipped(), "doubles": Doubles()}
+WRONG_SEARCH = {"one-branch": OneBranch(), "every-level": EveryLevel()}
 
 
 def moved(idea, layer, arcs, high):
@@ -130,17 +147,60 @@ def last_line(idea, domains, counted):
     return "ADVICE CELL {1} VALUE {2} LINE {3} COUNT {4} TOTAL {5}".format(*best)
 
 
+def joined(lines):
+    return "".join(line + "\n" for line in lines)
+
+
+def cell_lines(domains):
+    return [f"CELL {c} VALUES {' '.join(map(str, sorted(d))) or 'NONE'}" for c, d in enumerate(domains)]
+
+
 def report(idea, data):
     """The report on an accepted board file, as this idea has it."""
     domains, board = second.read(data)
     domains, passes, struck = settle(idea, [idea.domain(d) for d in domains], board)
     counted = [counts(idea, row, domains) for row in board]
-    lines = [f"CELLS {len(domains)} LINES {len(board)}", f"PASSES {passes} STRUCK {struck}"]
-    lines += [f"CELL {c} VALUES {' '.join(map(str, sorted(d))) or 'NONE'}" for c, d in enumerate(domains)]
+    lines = [f"CELLS {len(domains)} LINES {len(board)}", f"PASSES {passes} STRUCK {struck}", *cell_lines(domains)]
     lines += [f"LINE {line} TOTAL {total}" for line, (total, _) in enumerate(counted)]
-    return "".join(line + "\n" for line in lines + [last_line(idea, domains, counted)])
+    return joined(lines + [last_line(idea, domains, counted)])
 
 
 def call(text):
     """What a report calls: DEAD, SETTLED, or the cell and the value of the move."""
     return text.splitlines()[-1].split(" LINE ")[0]
+
+
+def filling(idea, domains, board, followed, removed):
+    """The filling that the search finds, one value in each domain, or None. It notes down the cells and values followed, and those removed."""
+    domains, _, _ = settle(idea, domains, board)
+    said = last_line(idea, domains, [counts(idea, row, domains) for row in board]).split()
+    if said[0] == "DEAD":
+        return None
+    if said[0] == "SETTLED":
+        return [{min(d)} for d in domains]
+    cell, value = int(said[2]), int(said[4])
+    followed.append((cell, value))
+    found = filling(idea, [{value} if c == cell else d for c, d in enumerate(domains)], board, followed, removed)
+    if found is not None:
+        return found
+    removed.append((cell, value))
+    out = idea.left_out(removed)
+    if out is None:
+        return None
+    return filling(idea, [{v for v in d if (c, v) not in out} for c, d in enumerate(domains)], board, followed, removed)
+
+
+def search(idea, data, choices):
+    """What the search prints on an accepted board file, with so many choices, as this idea has it."""
+    domains, board = second.read(data)
+    followed = []
+    found = filling(idea, domains, board, followed, [])
+    word = "SPENT" if len(followed) > choices else "NONE" if found is None else "SOLVED"
+    left = found if word == "SOLVED" else settle(idea, domains, board)[0]
+    paid = min(len(followed), choices)
+    return joined([f"{word} FOLLOWED {paid} LEFT {choices - paid}", *cell_lines(left)])
+
+
+def ending(text):
+    """How a search ends: SOLVED, NONE or SPENT."""
+    return text.split()[0]

@@ -1,5 +1,6 @@
 #!/usr/bin/env python3
-"""Finds, for each wrong idea, the smallest board on which its report is another, and the smallest on which its call is another.
+"""Finds, for each wrong idea, the smallest board on which its report is another, and the smallest on which its call is another; for a wrong
+idea of the search, the smallest on which the search ends otherwise.
 
 usage: smallest.py [--check] [IDEA..]      (--check: also say whether the boards of boards/ are those found)
 
@@ -8,7 +9,7 @@ stand in the file. On each board the implementation of ideas.py, with no wrong i
 """
 import os
 import sys
-from itertools import accumulate, combinations_with_replacement, count, permutations, product
+from itertools import accumulate, combinations, combinations_with_replacement, count, permutations, product
 
 import ideas
 
@@ -22,6 +23,12 @@ FAMILIES = {
     "pinned": (range(4), range(4), range(4)),
     "skipped": (range(2), range(2), range(3)),
 }
+# for the search, a family of one shape: the number of cells, the values listed in each, the rows' lengths, and what they are made from
+SEARCHED = {
+    "one-branch": (2, 3, (2, 2), (range(5), range(1, 3), range(1, 7))),
+    "every-level": (4, 2, (2, 4), (range(2), range(1, 4), range(1, 4))),
+}
+MANY = 1000  # choices, more than any of these boards needs
 
 
 def lengths(size, most):
@@ -43,39 +50,67 @@ def shapes():
                     yield cells, rows
 
 
-def rows_of(cells, length, weights, limits):
+def rows_of(cells, length, weights, limits, names_of=permutations):
     """Every row of a length, by its numbers in the file's order."""
-    pairs = [list(zip(names, ws)) for names in permutations(range(cells), length) for ws in product(weights, repeat=length)]
+    pairs = [list(zip(names, ws)) for names in names_of(range(cells), length) for ws in product(weights, repeat=length)]
     return [(low, high, chosen) for low in limits for high in limits if low <= high for chosen in sorted(pairs)]
+
+
+def domains_of(values):
+    return [{values[k] for k in range(len(values)) if bits >> k & 1} for bits in range(1 << len(values))]
 
 
 def family(values, weights, limits):
     """The board files of a family, in order."""
-    domains = [{values[k] for k in range(len(values)) if bits >> k & 1} for bits in range(1 << len(values))]
     for cells, shape in shapes():
         rows = [rows_of(cells, length, weights, limits) for length in shape]
-        for chosen in product(domains, repeat=cells):
+        for chosen in product(domains_of(values), repeat=cells):
             for board in product(*rows):
                 yield boards.write(chosen, board)
 
 
-def both(idea, data):
-    """The right report, which both programs must give, and the wrong one."""
-    right = ideas.second.report(data)
-    if ideas.report(ideas.Right(), data) != right:
+def settled_family(cells, listed, shape, ranges):
+    """The board files of one shape, in order, whose rows name their cells in order and strike nothing: a board that settling changes is
+    searched as the one that it leaves."""
+    values, *rest = ranges
+    rows = [rows_of(cells, length, *rest, combinations) for length in shape]
+    for chosen in product([d for d in domains_of(values) if len(d) == listed], repeat=cells):
+        idle = [[row for row in these if all(ideas.counts(ideas.Right(), row, chosen)[1].values())] for these in rows]
+        for board in product(*idle):
+            yield boards.write(chosen, board)
+
+
+def agreed(ours, theirs, data):
+    """What ideas.py prints with no wrong idea, which the second program must print too."""
+    if ours != theirs:
         sys.exit(f"ideas.py and the second program differ on {data.hex(' ')}")
-    return right, ideas.report(idea, data)
+    return ours
+
+
+def right_report(data):
+    return agreed(ideas.report(ideas.Right(), data), ideas.second.report(data), data)
+
+
+def right_search(data):
+    return agreed(ideas.search(ideas.Right(), data, MANY), ideas.second_search.printed(data, MANY)[0], data)
 
 
 def search(idea, files):
     """The first file with another report, the first with another call, and how many were tried."""
     other = None
     for tried, data in enumerate(files, 1):
-        right, wrong = both(idea, data)
+        right, wrong = right_report(data), ideas.report(idea, data)
         if right != wrong and other is None:
             other = data
         if ideas.call(right) != ideas.call(wrong):
             return other, data, tried
+
+
+def search_ends(idea, files):
+    """The first file whose search ends otherwise, and how many were tried."""
+    for tried, data in enumerate(files, 1):
+        if ideas.ending(right_search(data)) != ideas.ending(ideas.search(idea, data, MANY)):
+            return data, tried
 
 
 # ---- doubles: boards made so that two shares lie close together
@@ -125,12 +160,21 @@ def near_boards():
                         yield boards.write([{0, a}] + [set(range(32))] * m, made)
 
 
+def smallest(name):
+    """The board found for an idea, and what is said of it."""
+    if name in SEARCHED:
+        data, tried = search_ends(ideas.WRONG_SEARCH[name], settled_family(*SEARCHED[name]))
+        return data, f"{tried} boards tried; ending: {len(data)} bytes {data.hex()}"
+    files = near_boards() if name == "doubles" else family(*FAMILIES[name])
+    other, data, tried = search(ideas.WRONG[name], files)
+    return data, f"{tried} boards tried; report: {len(other)} bytes {other.hex()}; call: {len(data)} bytes {data.hex()}"
+
+
 def main():
-    names = [a for a in sys.argv[1:] if not a.startswith("-")] or list(ideas.WRONG)
+    names = [a for a in sys.argv[1:] if not a.startswith("-")] or [*ideas.WRONG, *ideas.WRONG_SEARCH]
     for name in names:
-        files = near_boards() if name == "doubles" else family(*FAMILIES[name])
-        other, data, tried = search(ideas.WRONG[name], files)
-        print(f"{name}: {tried} boards tried; report: {len(other)} bytes {other.hex()}; call: {len(data)} bytes {data.hex()}", flush=True)
+        data, said = smallest(name)
+        print(f"{name}: {said}", flush=True)
         with open(os.path.join(ideas.here, "boards", name + ".board"), "rb" if "--check" in sys.argv else "wb") as f:
             if "--check" not in sys.argv:
                 f.write(data)

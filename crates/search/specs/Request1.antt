@@ -20,7 +20,8 @@ use Rattle.settling.specs.Settling.{Row, Loose, Domains, BoardFilling}
 use Rattle.settling.specs.Boards.{rowsOf}
 use Rattle.advice.specs.Advising.{domainsOf, settledOf}
 use Rattle.advice.specs.StepLaws.{read-is-sound, left-length}
-use Rattle.searching.specs.Searching.{lowest, ShowsFilling, needed, Ending, solved, none, spent, choicesLeft, Playable}
+use Rattle.searching.specs.Searching.{lowest, needed, Ending, solved, none, spent, choicesLeft}
+use Rattle.searching.specs.Promised.{ShowsFilling, Playable}
 use Rattle.searching.specs.Request1 as board
 use Rattle.search.specs.Finishing.{Word, itIsSolved, thereIsNone, itIsSpent, wordOf, domainsAfter, foundOn, endOf, neededOn, lentRefuses, searchRefuses, searchSays, Lent, searchLeaves}
 use Rattle.search.specs.StackLaws.{sound-playable}

@@ -11,7 +11,8 @@ use Rattle.board.specs.Sound.{SoundBoard}
 use Rattle.settling.specs.Settling.{Row}
 use Rattle.settling.specs.Boards.{rowsOf}
 use Rattle.advice.specs.Advising.{settledOf}
-use Rattle.searching.specs.Searching.{Found, Ending, solved, none, spent, ends, choicesLeft, Playable}
+use Rattle.searching.specs.Searching.{Found, Ending, solved, none, spent, ends, choicesLeft}
+use Rattle.searching.specs.Promised.{Playable}
 use Rattle.searching.specs.Levels.{searchAll, openCells}
 use Rattle.search.specs.declared.purse.Purse.{Purse}
 use Rattle.search.specs.declared.inner.Verdict.{Verdict}

@@ -24,7 +24,8 @@ use Rattle.settling.specs.BoardLaws.{sound-accepted, rows-have-cells}
 use Rattle.choose.specs.Advice.{cleared}
 use Rattle.choose.specs.Steps.{SameRest}
 use Rattle.choosing.specs.Choosing.{Candidate, dead, settled, advise, toLowest, choose}
-use Rattle.searching.specs.Searching.{lowest, lowests, cutTo, removed, Found, nothing, one, searched, ends, choicesLeft, Playable}
+use Rattle.searching.specs.Searching.{lowest, lowests, cutTo, removed, Found, nothing, one, searched, ends, choicesLeft}
+use Rattle.searching.specs.Promised.{Playable}
 use Rattle.searching.specs.Levels.{searchAll, openCells}
 use Rattle.searching.specs.Looks.{Branches, open-most, look-of, advice-fits, branch-branches}
 use Rattle.searching.specs.Searches.{ends-enough, ends-more, left-more, ends-broke, left-broke, all-none, all-one, all-empty, all-filled, all-branch}

@@ -1,4 +1,4 @@
--- Four boards, searched by computing the definitions: one table, and one statement. Assumes nothing.
+-- Five boards, searched by computing the definitions: one table, and one statement. Assumes nothing.
 use mathlib.Core.Path.{_≡_, refl}
 use mathlib.Core.List.{List, [], _∷_, flatMap}
 use Prim.Native.Nat.{ℕ}
@@ -36,11 +36,17 @@ examples =
     }
     -- the advice is the first cell's higher value, which two of the three good fillings have
     ∷ record { rows = row (0 ∷ 1 ∷ []) (1 ∷ 1 ∷ []) 1 2 ∷ []; domains = 0b11 ∷ 0b11 ∷ []; found = one (0b10 ∷ 0b1 ∷ []) 2 }
-    -- the first advice, 0 in the first cell, is wrong: the search goes back
+    -- the first advice, 1 in the first cell, is wrong: the search goes back
     ∷ record {
-      rows = row (0 ∷ 1 ∷ 2 ∷ []) (3 ∷ 1 ∷ 1 ∷ []) 4 4 ∷ row (0 ∷ 1 ∷ 2 ∷ []) (3 ∷ 2 ∷ 3 ∷ []) 5 6 ∷ [];
-      domains = 0b111 ∷ 0b1010 ∷ 0b1011 ∷ [];
-      found = one (0b10 ∷ 0b10 ∷ 0b1 ∷ []) 1;
+      rows = row (0 ∷ 1 ∷ []) (2 ∷ 1 ∷ []) 2 4 ∷ row (0 ∷ 1 ∷ []) (2 ∷ 1 ∷ []) 4 6 ∷ [];
+      domains = 0b111 ∷ 0b10011 ∷ [];
+      found = one (0b1 ∷ 0b10000 ∷ []) 2;
+    }
+    -- it goes back twice, and what failed below the first advice is there again without it
+    ∷ record {
+      rows = row (1 ∷ 2 ∷ []) (1 ∷ 1 ∷ []) 1 1 ∷ row (0 ∷ 1 ∷ 2 ∷ 3 ∷ []) (1 ∷ 1 ∷ 2 ∷ 3 ∷ []) 3 3 ∷ [];
+      domains = 0b11 ∷ 0b11 ∷ 0b11 ∷ 0b11 ∷ [];
+      found = one (0b10 ∷ 0b1 ∷ 0b10 ∷ 0b1 ∷ []) 2;
     }
     -- no row strikes anything, and there is no filling
     ∷ record { rows = apart 0 1 ∷ apart 1 2 ∷ apart 2 0 ∷ []; domains = 0b11 ∷ 0b11 ∷ 0b11 ∷ []; found = nothing 1 }
@@ -48,7 +54,7 @@ examples =
 
 pub examples-hold : Hold examples
 unfolding howMany below byPlace listed domainOf size flatMap fillings weigh total count kept strike gather scatter visit pass after passesAtMost passesMade settle order choices ofPlace ofRow candidates byTies stands unbeaten someEmpty choose lowest searchIn searched
-examples-hold = (refl, (refl, (refl, (refl, tt))))
+examples-hold = (refl, (refl, (refl, (refl, (refl, tt)))))
 
 -- what two choices are needed for: two given, and one given
 pub numbers-hold : (e : List ℕ)

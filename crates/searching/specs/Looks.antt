@@ -30,7 +30,8 @@ use Rattle.settling.specs.Demand3.{largest-family, left-accepted, value-in-fill
 use Rattle.choosing.specs.Choosing.{Candidate, Choice, dead, settled, advise, toLowest, choose, noRow, rowAt}
 use Rattle.choosing.specs.Promised.{SomeEmpty, NoneEmpty, Single, Open, Promised}
 use Rattle.choosing.specs.ChoiceLaws.{settled-promises}
-use Rattle.searching.specs.Searching.{lowest, lowests, ShowsFilling, cutTo, removed, Playable}
+use Rattle.searching.specs.Searching.{lowest, lowests, cutTo, removed}
+use Rattle.searching.specs.Promised.{ShowsFilling, Playable}
 use Rattle.searching.specs.Levels.{openCells}
 use Rattle.searching.specs.Lowest.{lowest-listed, only-lowest}
 

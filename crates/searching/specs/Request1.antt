@@ -8,7 +8,8 @@ use lib.ListN.{length, getD}
 use Rattle.counting.specs.Counting.{NoNewValue}
 use Rattle.settling.specs.Settling.{Row, Loose, BoardFilling}
 use Rattle.settling.specs.Fillings.{board-filling-within}
-use Rattle.searching.specs.Searching.{lowest, ShowsFilling, Found, nothing, one, followed, more, orElse, searched, needed, Ending, solved, none, spent, ending, ends, choicesLeft, Playable}
+use Rattle.searching.specs.Searching.{lowest, Found, nothing, one, followed, more, orElse, searched, needed, Ending, solved, none, spent, ending, ends, choicesLeft}
+use Rattle.searching.specs.Promised.{ShowsFilling, Playable}
 use Rattle.searching.specs.Looks.{look, branch, empty-none, filled-shows, filled-loose, branch-branches}
 use Rattle.searching.specs.Searches.{ends-enough, ends-short, enough-or-few, spent-short, search-rule}
 

@@ -11,7 +11,8 @@ use borrow.Author.Tests.{le-ltb, lt-ltb}
 use Rattle.counting.specs.Counting.{size}
 use Rattle.settling.specs.Settling.{Row, settle}
 use Rattle.choosing.specs.Choosing.{Choice, dead, settled, advise, toLowest, choose}
-use Rattle.searching.specs.Searching.{lowests, cutTo, removed, Found, nothing, one, followed, more, orElse, searchIn, searched, spent, ending, ends, choicesLeft, Playable}
+use Rattle.searching.specs.Searching.{lowests, cutTo, removed, Found, nothing, one, followed, more, orElse, searchIn, searched, spent, ending, ends, choicesLeft}
+use Rattle.searching.specs.Promised.{Playable}
 use Rattle.searching.specs.Levels.{searchAll}
 use Rattle.searching.specs.Looks.{Look, empty, filled, branch, seen, look, branch-branches}
 

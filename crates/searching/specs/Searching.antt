@@ -1,16 +1,15 @@
 -- What finishing a board by search means, in the words of request R-1. Definitions only; their laws stand in the files beside this one.
 -- rs are a board's rows and d its domains, one for each cell; c is a cell and v a value.
-use mathlib.Core.Path.{_≡_}
 use mathlib.Core.Bool.{cond}
 use mathlib.Core.List.{List, map}
-use Prim.Native.Nat.{ℕ, zero, suc, _+_, _-_, _^_, _≤_}
+use Prim.Native.Nat.{ℕ, zero, suc, _+_, _-_, _^_}
 use lib.Dec.{ltb}
-use lib.ListN.{length, getD, set}
+use lib.ListN.{getD, set}
 use Rattle.counting.specs.Counting.{listed, size}
-use Rattle.settling.specs.Settling.{Row, _∈_, Accepted, settle, BoardFilling}
+use Rattle.settling.specs.Settling.{Row, settle}
 use Rattle.choosing.specs.Choosing.{dead, settled, advise, toLowest, choose}
 
--- ---- fillings as domains
+-- ---- the lowest values
 
 -- the lowest value that a domain lists
 unfoldable pub lowest : ℕ → ℕ
@@ -19,12 +18,6 @@ lowest e = getD (listed e) 0 0
 -- each domain cut to its lowest value
 abbrev pub lowests : List ℕ → List ℕ
 lowests d = map (λ e. 2 ^ lowest e) d
-
--- e shows a filling of the board: for each cell the domain of the one value taken
-pub record ShowsFilling (rs : List Row) (d e : List ℕ) : Type 0 where
-  pub taken : List ℕ
-  pub filling : BoardFilling rs d taken
-  pub shown : e ≡ map (λ v. 2 ^ v) taken
 
 -- ---- what is found
 
@@ -93,10 +86,3 @@ ends n o = cond (ltb n (followed o)) spent (ending o)
 
 unfoldable pub choicesLeft : ℕ → Found → ℕ
 choicesLeft n o = n - followed o
-
--- ---- boards that are searched
-
--- an accepted board whose rows have cells
-pub record Playable (rs : List Row) (d : List ℕ) : Type 0 where
-  pub accepted : Accepted rs d
-  pub some : (r : Row) → r ∈ rs → 1 ≤ length (r .cells)
