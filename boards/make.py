@@ -56,6 +56,14 @@ MADE = {
         "Equal shares of different terms, 1/2 and 2/4: the lowest cell is advised, in the row where it stands.",
         ([BITS] * 4, [row(1, 1, (2, 1), (3, 1)), row(0, 0, (0, 0), (1, 0))]),
     ),
+    "back": (
+        "The advice is wrong: with 0 in the first cell the second row wants 3 of the other two, and the first row allows 2. A search goes back once.",
+        ([{0, 1}, {0, 1, 2}, {0, 1, 2}], [row(0, 2, (1, 1), (2, 1)), row(3, 3, (0, 2), (1, 1), (2, 1))]),
+    ),
+    "odd": (
+        "No filling, though no row strikes a value: the first row wants an odd sum of the last two cells, the second an even one. A search needs one choice to see it.",
+        ([BITS] * 3, [row(1, 1, (1, 1), (2, 1)), row(2, 2, (0, 2), (1, 1), (2, 1))]),
+    ),
     "refused-1": ("The second row has the length 11.", changed(EXAMPLE, 21, 11)),
     "refused-2": ("The first row's low is above its high.", changed(EXAMPLE, 13, 4)),
     "refused-6": ("Five bytes.", EXAMPLE[-5:]),

@@ -1,21 +1,11 @@
 -- What a loop over a word's digits knows. Assumes nothing.
 use mathlib.Core.Path.{_≡_, refl}
 use mathlib.Core.List.{List}
-use Prim.Native.Nat.{ℕ, _+_, _*_, _%_, _≤_, _<_}
+use Prim.Native.Nat.{ℕ, _+_, _≤_}
 use native.Mathlib.Numerals.{add-one}
 use native.Mathlib.Omega.{arith}
-use borrow.Author.Tests.{lt-ltb, le-ltb}
 use lib.ListN.{length, getD}
 use Rattle.digits.specs.Digits.{withDigit, spelledTo, spelled}
-
--- a digit more, or none where the number is large
-pub digit-more : (n digit : ℕ) → n ≤ 1000000 → 10 * n + digit % 16 ≡ withDigit n digit
-unfolding withDigit
-digit-more n digit h = rw (le-ltb 1000000 n h)
-
-pub digit-none : (n digit : ℕ) → 1000000 < n → n ≡ withDigit n digit
-unfolding withDigit
-digit-none n digit h = rw (lt-ltb 1000000 n h)
 
 -- at its start, one byte more, and at its end
 pub spelled-start : (word : List ℕ) → 0 ≡ spelledTo word 0

@@ -1,13 +1,11 @@
 -- The number that a word spells, digit by digit. Definitions only.
-use mathlib.Core.Bool.{cond}
 use mathlib.Core.List.{List}
-use Prim.Native.Nat.{ℕ, zero, suc, _+_, _*_, _%_}
-use lib.Dec.{ltb}
+use Prim.Native.Nat.{ℕ, zero, suc, _+_, _*_, _%_, _-_, _^_, min}
 use lib.ListN.{length, getD}
 
--- a number with one digit more; past a million no digit counts any more
-unfoldable pub withDigit : ℕ → ℕ → ℕ
-withDigit n digit = cond (ltb 1000000 n) n (10 * n + digit % 16)
+-- a number with one digit more, at most 2 to the 64th less 1
+abbrev pub withDigit : ℕ → ℕ → ℕ
+withDigit n digit = min (10 * n + digit % 16) (2 ^ 64 - 1)
 
 -- the number that the first i bytes spell, and the whole word
 unfoldable pub spelledTo : List ℕ → ℕ → ℕ

@@ -2,7 +2,7 @@
 ghost use mathlib.Core.Path.{_≡_};
 ghost use Rattle.digits.specs.Digits.{withDigit, spelled};
 
-// The number that a word spells.
+// The number that a word spells, or the largest of 64 bits where it spells a larger one.
 pub fn number_of(word: &[u8]) -> u64
     ensures { λ r. ⌜ r ≡ spelled (now (word .entry)) ⌝ }
 {
@@ -15,12 +15,13 @@ pub fn number_of(word: &[u8]) -> u64
     n
 }
 
-// A number with one digit more; past a million no digit counts any more.
+// A number with one digit more, at most the largest of 64 bits.
 fn with_digit(n: u64, digit: u8) -> u64
     ensures { λ r. ⌜ r ≡ withDigit n digit ⌝ }
 {
-    if 1000000 < n {
-        return n;
+    let last = (digit % 16) as u64;
+    if (u64::MAX - last) / 10 < n {
+        return u64::MAX;
     }
-    10 * n + (digit % 16) as u64
+    10 * n + last
 }

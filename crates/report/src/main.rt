@@ -1,14 +1,14 @@
 // Reports on the board file on standard input, in the lines of document 01.
-mod print;
-
 use advice::Answer;
 use advice::advise;
 use board::Board;
 use board::Row;
 use choose::Advice;
 use libc::STDIN_FILENO;
-use print::named;
-use print::text;
+use lines::cells;
+use lines::named;
+use lines::refused;
+use lines::text;
 use reader::read;
 use settle::Tally;
 use sizes::BOARD_CELLS;
@@ -16,7 +16,6 @@ use sizes::BOARD_ROWS;
 use sizes::FILE;
 use sizes::ROW_CELLS;
 use sizes::TABLE;
-use sizes::VALUES;
 
 // A byte more than the longest file: an input that fills it is too long, and refused as such.
 const INPUT: usize = FILE + 1;
@@ -32,16 +31,13 @@ fn report(file: &[u8]) {
     let mut forward = [0u64; TABLE];
     let mut backward = [0u64; TABLE];
     match advise(file, &mut room, &mut forward, &mut backward) {
-        Answer::Refused(number) => {
-            named(b"REFUSED ", number as usize);
-            text(b"\n");
-        }
+        Answer::Refused(number) => refused(number),
         Answer::Advised { tally, advice } => {
             let reading = read(file);
             let board = reading.board;
             sizes_and_tally(board.cells, board.rows, tally);
             cells(board.cells, room);
-            lines(board, room);
+            totals(board, room);
             last_line(advice);
         }
     }
@@ -55,43 +51,8 @@ fn sizes_and_tally(cells: usize, rows: usize, tally: Tally) {
     text(b"\n");
 }
 
-// The values left in each cell.
-fn cells(cells: usize, room: [u32; BOARD_CELLS]) {
-    for cell in 0..BOARD_CELLS {
-        cell_line(cells, cell, room[cell]);
-    }
-}
-
-fn cell_line(cells: usize, cell: usize, domain: u32) {
-    if cells <= cell {
-        return;
-    }
-    named(b"CELL ", cell);
-    text(b" VALUES");
-    if domain == 0 {
-        text(b" NONE");
-    }
-    values(domain);
-    text(b"\n");
-}
-
-fn values(domain: u32) {
-    for value in 0..VALUES {
-        if_listed(domain, value);
-    }
-}
-
-fn if_listed(domain: u32, value: usize) {
-    if VALUES <= value {
-        return;
-    }
-    if (domain >> value) % 2 == 1 {
-        named(b" ", value);
-    }
-}
-
 // Each row's total over the settled domains.
-fn lines(board: Board, room: [u32; BOARD_CELLS]) {
+fn totals(board: Board, room: [u32; BOARD_CELLS]) {
     let rows = board.rows;
     for line in 0..BOARD_ROWS {
         let row = board.lines[line];

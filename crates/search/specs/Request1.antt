@@ -3,11 +3,11 @@
 use mathlib.Core.Path.{_≡_, refl, sym, ap, _∙_}
 use mathlib.Core.Logic.{_≢_}
 use mathlib.Core.List.{List}
-use Prim.Native.Nat.{ℕ, _+_, _*_, _^_, _≤_, _<_}
+use Prim.Native.Nat.{ℕ, zero, suc, _+_, _*_, _^_, _≤_, _<_}
 use native.Mathlib.Decide.{decLt}
 use native.Mathlib.Omega.{arith}
 use lib.ListN.{length, getD, take, length-map, List·getD-eq-default}
-use Rattle.told.specs.Told.{Told, refused, says, answer}
+use Rattle.told.specs.Told.{Told, refused, says, answer, leave}
 use Rattle.told.specs.ToldLaws.{neither}
 use Rattle.sizes.specs.Sizes.{values, boardCells}
 use Rattle.listing.specs.Listing.{onto}
@@ -55,6 +55,15 @@ saidOf x = says (wordOf x)
 abbrev wordIn : Told Word → Word
 wordIn (says w) = w
 wordIn (refused n) = itIsSpent
+
+-- ---- whatever the file and the rooms, no more choices are left than were given
+
+left-by : (z n : ℕ) (held new : Lent) → held .choices ≤ n → new .choices ≤ n → leave z held new .choices ≤ n
+left-by zero n held new p q = q
+left-by (suc z) n held new p q = p
+
+pub left-most : (file room stack forward backward : List ℕ) (n : ℕ) → searchLeaves file n room stack forward backward .choices ≤ n
+left-most file room stack forward backward n = left-by (searchRefuses file room stack forward backward) n _ _ (omega arith) (omega arith)
 
 -- ---- a file that is not refused holds a board that can be searched
 

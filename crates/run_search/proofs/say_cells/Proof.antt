@@ -6,22 +6,16 @@ use Rattle.run_search.proofs.say_cells.Statement.{statement}
 use Rattle.run_search.proofs.say_cells.Tie as tie
 
 abbrev Inv-loop : tie.InvT-loop
-Inv-loop cells room cell₀ cell = cell ≤ boardCells
+Inv-loop cells room from₀ cell₀ from cell = (from ≤ cell) × (cell ≤ boardCells)
 
 abbrev μ-loop : tie.MeasureT-loop
-μ-loop cells room cell₀ cell = boardCells - cell
+μ-loop cells room from₀ cell₀ from cell = boardCells - cell
 
 loop-holds : tie.Need-loop-holds Inv-loop μ-loop
 loop-holds c = search needs
 
-mul-say-cell : tie.Need-mul-say-cell Inv-loop μ-loop
-mul-say-cell c = search needs
-
-array-read-say-cell : tie.Need-array-read-say-cell Inv-loop μ-loop
-array-read-say-cell c = search needs
-
-say-cell-requires : tie.Need-say-cell-requires Inv-loop μ-loop
-say-cell-requires c κs = search needs
+say-together-requires : tie.Need-say-together-requires Inv-loop μ-loop
+say-together-requires c κs = search needs
 
 add-cell : tie.Need-add-cell Inv-loop μ-loop
 add-cell c = search needs
@@ -42,9 +36,7 @@ say-cells-spec =
     Inv-loop
     μ-loop
     loop-holds
-    mul-say-cell
-    array-read-say-cell
-    say-cell-requires
+    say-together-requires
     add-cell
     loop-less
     loop-again

@@ -2,14 +2,20 @@
 use Prim.Native.Nat.{_≤_, _-_}
 use Rattle.sizes.specs.Sizes.{values}
 use borrow.Author.Needs.{needs}
-use Rattle.report.proofs.values.Statement.{statement}
-use Rattle.report.proofs.values.Tie as tie
+use Rattle.lines.proofs.values.Statement.{statement}
+use Rattle.lines.proofs.values.Tie as tie
 
 abbrev Inv-loop : tie.InvT-loop
 Inv-loop domain value₀ value = value ≤ values
 
 abbrev μ-loop : tie.MeasureT-loop
 μ-loop domain value₀ value = values - value
+
+slice-aggregate-text : tie.Need-slice-aggregate-text Inv-loop μ-loop
+slice-aggregate-text c = search needs
+
+text-requires : tie.Need-text-requires Inv-loop μ-loop
+text-requires c κs = search needs
 
 loop-holds : tie.Need-loop-holds Inv-loop μ-loop
 loop-holds c = search needs
@@ -32,4 +38,14 @@ returns c = search needs
 pub values-spec : {M : Type 1} → statement M
 values-spec =
     tie.close
-    (tie.spec Inv-loop μ-loop loop-holds if-listed-requires add-value loop-less loop-again returns)
+    (tie.spec
+    Inv-loop
+    μ-loop
+    slice-aggregate-text
+    text-requires
+    loop-holds
+    if-listed-requires
+    add-value
+    loop-less
+    loop-again
+    returns)

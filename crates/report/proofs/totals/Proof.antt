@@ -1,9 +1,9 @@
--- `lines` goes through all rows that a board can have and ends. Assumes nothing.
+-- `totals` goes through all rows that a board can have and ends. Assumes nothing.
 use Prim.Native.Nat.{_≤_, _-_}
 use Rattle.sizes.specs.Sizes.{boardRows}
 use borrow.Author.Needs.{needs}
-use Rattle.report.proofs.lines.Statement.{statement}
-use Rattle.report.proofs.lines.Tie as tie
+use Rattle.report.proofs.totals.Statement.{statement}
+use Rattle.report.proofs.totals.Tie as tie
 
 abbrev Inv-loop : tie.InvT-loop
 Inv-loop room board rows line₀ line = line ≤ boardRows
@@ -35,8 +35,8 @@ loop-again c = search needs
 returns : tie.Need-returns Inv-loop μ-loop
 returns c = search needs
 
-pub lines-spec : {M : Type 1} → statement M
-lines-spec =
+pub totals-spec : {M : Type 1} → statement M
+totals-spec =
     tie.close
     (tie.spec
     Inv-loop

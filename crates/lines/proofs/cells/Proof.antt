@@ -2,8 +2,8 @@
 use Prim.Native.Nat.{_≤_, _-_}
 use Rattle.sizes.specs.Sizes.{boardCells}
 use borrow.Author.Needs.{needs}
-use Rattle.report.proofs.cells.Statement.{statement}
-use Rattle.report.proofs.cells.Tie as tie
+use Rattle.lines.proofs.cells.Statement.{statement}
+use Rattle.lines.proofs.cells.Tie as tie
 
 abbrev Inv-loop : tie.InvT-loop
 Inv-loop cells room cell₀ cell = cell ≤ boardCells
