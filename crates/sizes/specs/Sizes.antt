@@ -1,4 +1,4 @@
--- Document 01's sizes, each number under one name, and the two refusals that every row shares. Definitions only.
+-- The sizes of document 01 and of request R-1, each number under one name, and the two refusals that every row shares. Definitions only.
 use Prim.Native.Nat.{ℕ}
 use lib.Dec.{eqb, ltb}
 use Rattle.told.specs.Told.{when, first}

@@ -1,4 +1,4 @@
-// Document 01's sizes, each under one name, and the two refusals that every row shares.
+// The sizes of document 01 and of request R-1, each under one name, and the two refusals that every row shares.
 ghost use mathlib.Core.Path.{_≡_};
 ghost use Rattle.sizes.specs.Sizes.{lengthRefuses, limitsRefuse};
 

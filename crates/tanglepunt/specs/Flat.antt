@@ -9,10 +9,10 @@ use Rattle.advice.specs.Advising.{Said}
 use Rattle.search.specs.Finishing.{Word, itIsSolved, thereIsNone, itIsSpent}
 use Rattle.tanglepunt.specs.declared.Number.{Number}
 use Rattle.tanglepunt.specs.declared.Order.{Order}
-use Rattle.tanglepunt.specs.declared.Ending.{Ending}
 use Rattle.tanglepunt.specs.declared.Counts.{Counts}
 use Rattle.tanglepunt.specs.declared.Reading.{Reading}
 use Rattle.tanglepunt.specs.declared.Advice.{Advice}
+use Rattle.tanglepunt.specs.declared.Ending.{Ending}
 
 -- a number
 abbrev pub numberOf : Told ℕ → Number
@@ -25,13 +25,6 @@ orderOf (says Ordering·lt) = record { refused = 0; order = 0 }
 orderOf (says Ordering·eq) = record { refused = 0; order = 1 }
 orderOf (says Ordering·gt) = record { refused = 0; order = 2 }
 orderOf (refused n) = record { refused = n; order = 0 }
-
--- how a search ended: 0 is Solved, 1 None, 2 Spent
-abbrev pub endingOf : Told Word → Ending
-endingOf (says itIsSolved) = record { refused = 0; ending = 0 }
-endingOf (says thereIsNone) = record { refused = 0; ending = 1 }
-endingOf (says itIsSpent) = record { refused = 0; ending = 2 }
-endingOf (refused n) = record { refused = n; ending = 0 }
 
 -- the numbers of cells and of rows
 abbrev pub countsOf : Told (ℕ × ℕ) → Counts
@@ -83,3 +76,10 @@ chosenOf passes struck (advise x share) =
 abbrev pub adviceOf : Told Said → Advice
 adviceOf (says said) = chosenOf (said .passes) (said .struck) (said .choice)
 adviceOf (refused n) = plainOf n 0 0 0
+
+-- how a search ended: 0 is Solved, 1 None, 2 Spent
+abbrev pub endingOf : Told Word → Ending
+endingOf (says itIsSolved) = record { refused = 0; ending = 0 }
+endingOf (says thereIsNone) = record { refused = 0; ending = 1 }
+endingOf (says itIsSpent) = record { refused = 0; ending = 2 }
+endingOf (refused n) = record { refused = n; ending = 0 }

@@ -32,7 +32,7 @@ ghost use Rattle.writer.specs.Writing.{told as writeTold, writeSays, writeLeave
 ghost use Rattle.choose.specs.Advice.{told as choiceTold};
 ghost use Rattle.advice.specs.Advising.{told as adviseTold, adviseSays, rooms, adviseLeaves};
 ghost use Rattle.search.specs.Finishing.{told as searchTold, searchSays, lent, searchLeaves};
-ghost use Rattle.tanglepunt.specs.Flat.{endingOf, numberOf, orderOf, countsOf, boardWith, readingOf, adviceOf, chosenOf, plainOf};
+ghost use Rattle.tanglepunt.specs.Flat.{numberOf, orderOf, countsOf, boardWith, readingOf, adviceOf, chosenOf, plainOf, endingOf};
 
 // A number: a total, a count, how many values were struck, or the length of a file.
 #[repr(C)]
@@ -63,13 +63,6 @@ pub struct Reading {
     pub board: Board,
 }
 
-// How a search ended: ending is 0 for Solved, 1 for None, 2 for Spent.
-#[repr(C)]
-pub struct Ending {
-    pub refused: u8,
-    pub ending: u8,
-}
-
 // What is advised: kind is 0 for Dead, 1 for Settled, 2 for Advise.
 #[repr(C)]
 pub struct Advice {
@@ -83,6 +76,13 @@ pub struct Advice {
     pub count: u64,
     pub total: u64,
     pub share: f64,
+}
+
+// How a search ended: ending is 0 for Solved, 1 for None, 2 for Spent.
+#[repr(C)]
+pub struct Ending {
+    pub refused: u8,
+    pub ending: u8,
 }
 
 // Ranks c1 / t1 against c2 / t2 as exact fractions.
@@ -216,26 +216,6 @@ pub extern "C" fn tanglepunt_search(
 }
 
 // Each of these turns an answer into its struct.
-fn ending_of(answer: Searched) -> Ending
-    ensures { λ r. ⌜ r ≡ endingOf (searchTold answer) ⌝ }
-{
-    match answer {
-        Searched::Solved => Ending {
-            refused: 0,
-            ending: 0,
-        },
-        Searched::None => Ending {
-            refused: 0,
-            ending: 1,
-        },
-        Searched::Spent => Ending {
-            refused: 0,
-            ending: 2,
-        },
-        Searched::Refused(refused) => Ending { refused, ending: 0 },
-    }
-}
-
 fn order_of(ranking: Ranking) -> Order
     ensures { λ r. ⌜ r ≡ orderOf (rankTold ranking) ⌝ }
 {
@@ -359,5 +339,25 @@ fn plain(refused: u8, kind: u8, passes: usize, struck: usize) -> Advice
         count: 0,
         total: 0,
         share: share(0, 1),
+    }
+}
+
+fn ending_of(answer: Searched) -> Ending
+    ensures { λ r. ⌜ r ≡ endingOf (searchTold answer) ⌝ }
+{
+    match answer {
+        Searched::Solved => Ending {
+            refused: 0,
+            ending: 0,
+        },
+        Searched::None => Ending {
+            refused: 0,
+            ending: 1,
+        },
+        Searched::Spent => Ending {
+            refused: 0,
+            ending: 2,
+        },
+        Searched::Refused(refused) => Ending { refused, ending: 0 },
     }
 }
