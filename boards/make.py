@@ -9,6 +9,7 @@ import sys
 here = os.path.dirname(os.path.abspath(__file__))
 sys.path.insert(0, os.path.join(here, "..", "second"))
 import boards
+import made
 import report
 
 EXAMPLE = bytes.fromhex("0E000000 0E000000 0E000000 02 0300 0300 0001 0101 02 0700 0800 0101 0202 0C00 03 02 534C")
@@ -77,19 +78,10 @@ MADE = {
 
 
 def files():
-    for name, (shows, made) in MADE.items():
-        data = made if isinstance(made, bytes) else boards.write(*made)
+    for name, (shows, board) in MADE.items():
+        data = board if isinstance(board, bytes) else boards.write(*board)
         yield name + ".board", data
         yield name + ".txt", f"{shows}\n\n{report.report(data)}".encode()
 
 
-stale = []
-for name, data in files():
-    path = os.path.join(here, name)
-    if "--check" not in sys.argv:
-        with open(path, "wb") as f:
-            f.write(data)
-    elif not os.path.exists(path) or open(path, "rb").read() != data:
-        stale.append(name)
-if stale:
-    sys.exit("boards/ is not what make.py makes: " + ", ".join(stale))
+made.keep(here, files())

@@ -11,8 +11,9 @@ import sys
 
 here = os.path.dirname(os.path.abspath(__file__))
 root = os.path.join(here, "..", "..")
-sys.path.insert(0, os.path.join(root, "second"))
+sys.path[:0] = [os.path.join(root, "second"), os.path.join(root, "boards")]
 import boards
+from made import keep
 from report import Refused, read
 from search import search
 
@@ -136,13 +137,5 @@ def made():
     yield "stdout", "".join(line + "\n" for line in lines).encode()
 
 
-stale = [os.path.join("data", name) for name in os.listdir(os.path.join(here, "data")) if name not in FILES]
-for name, data in made():
-    path = os.path.join(here, name)
-    if "--check" not in sys.argv:
-        with open(path, "wb") as f:
-            f.write(data)
-    elif not os.path.exists(path) or open(path, "rb").read() != data:
-        stale.append(name)
-if stale:
-    sys.exit("crates/run_search is not what make_data.py makes: " + ", ".join(stale))
+left_over = [os.path.join("data", name) for name in os.listdir(os.path.join(here, "data")) if name not in FILES]
+keep(here, made(), left_over)
