@@ -24,7 +24,7 @@ use Rattle.settling.specs.BoardLaws.{sound-accepted, rows-have-cells}
 use Rattle.choose.specs.Advice.{cleared}
 use Rattle.choose.specs.Steps.{SameRest}
 use Rattle.choosing.specs.Choosing.{Candidate, dead, settled, advise, toLowest, choose}
-use Rattle.searching.specs.Searching.{lowest, lowests, cutTo, removed, Found, nothing, one, searched, ends, choicesLeft}
+use Rattle.searching.specs.Searching.{lowest, lowests, cutTo, removed, Found, nothing, one, more, searched, ends, choicesLeft}
 use Rattle.searching.specs.Promised.{Playable}
 use Rattle.searching.specs.Levels.{searchAll, openCells}
 use Rattle.searching.specs.Looks.{Branches, open-most, look-of, advice-fits, branch-branches}
@@ -88,7 +88,7 @@ module _ {board : Board} {h : ℕ} {purse : Purse} {d stack forward backward : L
   abbrev left : List ℕ
   left = settle (rowsOf board) d .left
 
-  playable : Playable (rowsOf board) d
+  playable : Playable rows d
   unfolding Roomy
   playable = way .roomy .0
 
@@ -99,80 +99,90 @@ module _ {board : Board} {h : ℕ} {purse : Purse} {d stack forward backward : L
   small : length d ≤ boardCells
   small = omega (arith, way .cells, way .sound .sizes .cells-most)
 
-  left-cells : length (settle (rowsOf board) d .left) ≡ length d
-  left-cells = settle-length (rowsOf board) d
+  left-cells : length left ≡ length d
+  left-cells = settle-length rows d
 
   -- levels in use are at most 64
   pub levels-most : h ≤ boardCells
   levels-most = omega (arith, deep, small)
 
+  -- ---- an advice: where it is followed, where its value is removed, and then the levels in use
+
+  abbrev first : Candidate → List ℕ
+  first x = cutTo left (x .cell) (x .value)
+
+  abbrev second : Candidate → List ℕ
+  second x = removed left (x .cell) (x .value)
+
+  abbrev both : Candidate → List (List ℕ)
+  both x = first x ∷ second x ∷ levels (length d) h stack
+
+  on-advice : (x : Candidate) (share : Float) → advise x share ≡ choose toLowest rows left → searchAll rows (trying h d stack) ≡ more 1 (searchAll rows (both x))
+  on-advice x share e = all-branch rows d (first x) (second x) (levels (length d) h stack) playable (look-of rows d (advise x share) e)
+
   -- ---- the last step: no filling, a filling, no choice left
 
   module _ (purse′ : Purse) (d′ : List ℕ) (p : purse′ ≡ purse) where
-    pub step-none : dead ≡ choose toLowest (rowsOf board) (settle (rowsOf board) d .left) → h ≡ 0
-        → Ended purse (searchAll (rowsOf board) (trying h d stack)) verdict.None purse′ d′
+    pub step-none : dead ≡ choose toLowest rows left → h ≡ 0
+        → Ended purse (searchAll rows (trying h d stack)) verdict.None purse′ d′
     unfolding levels choicesLeft
     step-none e z =
-        let found : searchAll (rowsOf board) (trying h d stack) ≡ nothing 0 =
-        ap (λ (k : ℕ). searchAll (rowsOf board) (trying k d stack)) z ∙ all-empty (rowsOf board) d [] (look-of (rowsOf board) d dead e) ∙ all-none (rowsOf board) in
+        let found : searchAll rows (trying h d stack) ≡ nothing 0 =
+        ap (λ (k : ℕ). searchAll rows (trying k d stack)) z ∙ all-empty rows d [] (look-of rows d dead e) ∙ all-none rows in
         record {
           end = sym (ap (ends (purse .left)) found ∙ ends-enough (purse .left) (nothing 0) (omega arith));
           remains = ap (λ (q : Purse). q .left) p ∙ sym (ap (choicesLeft (purse .left)) found ∙ omega arith);
           purse-same = rw p;
         }
 
-    pub step-solved : settled ≡ choose toLowest (rowsOf board) (settle (rowsOf board) d .left) → d′ ≡ lowests (settle (rowsOf board) d .left)
-        → Ended purse (searchAll (rowsOf board) (trying h d stack)) verdict.Solved purse′ d′
+    pub step-solved : settled ≡ choose toLowest rows left → d′ ≡ lowests (left)
+        → Ended purse (searchAll rows (trying h d stack)) verdict.Solved purse′ d′
     unfolding choicesLeft
     step-solved e q =
-        let found : searchAll (rowsOf board) (trying h d stack) ≡ one d′ 0 =
-        all-filled (rowsOf board) d (lowests left) (levels (length d) h stack) (look-of (rowsOf board) d settled e) ∙ ap (λ (f : List ℕ). one f 0) (sym q) in
+        let found : searchAll rows (trying h d stack) ≡ one d′ 0 =
+        all-filled rows d (lowests left) (levels (length d) h stack) (look-of rows d settled e) ∙ ap (λ (f : List ℕ). one f 0) (sym q) in
         record {
           end = sym (ap (ends (purse .left)) found ∙ ends-enough (purse .left) (one d′ 0) (omega arith));
           remains = ap (λ (q : Purse). q .left) p ∙ sym (ap (choicesLeft (purse .left)) found ∙ omega arith);
           purse-same = rw p;
         }
 
-    pub step-spent : (x : Candidate) (share : Float) → advise x share ≡ choose toLowest (rowsOf board) (settle (rowsOf board) d .left) → purse .left ≡ 0
-        → Ended purse (searchAll (rowsOf board) (trying h d stack)) verdict.Spent purse′ d′
+    pub step-spent : (x : Candidate) (share : Float) → advise x share ≡ choose toLowest rows left → purse .left ≡ 0
+        → Ended purse (searchAll rows (trying h d stack)) verdict.Spent purse′ d′
     step-spent x share e z =
-        let found = all-branch (rowsOf board) d (cutTo left (x .cell) (x .value)) (removed left (x .cell) (x .value)) (levels (length d) h stack) playable (look-of (rowsOf board) d (advise x share) e) in
+        let found = on-advice x share e in
         record {
-          end = sym (ap₂ ends z found ∙ ends-broke (searchAll (rowsOf board) (cutTo left (x .cell) (x .value) ∷ removed left (x .cell) (x .value) ∷ levels (length d) h stack)));
-          remains = ap (λ (q : Purse). q .left) p ∙ z ∙ sym (ap₂ choicesLeft z found ∙ left-broke (searchAll (rowsOf board) (cutTo left (x .cell) (x .value) ∷ removed left (x .cell) (x .value) ∷ levels (length d) h stack)));
+          end = sym (ap₂ ends z found ∙ ends-broke (searchAll rows (both x)));
+          remains = ap (λ (q : Purse). q .left) p ∙ z ∙ sym (ap₂ choicesLeft z found ∙ left-broke (searchAll rows (both x)));
           purse-same = rw p;
         }
 
   -- ---- the advice is followed
 
-  module _ (x : Candidate) (share : Float) (e : advise x share ≡ choose toLowest (rowsOf board) (settle (rowsOf board) d .left)) where
-    fewer : Branches (rowsOf board) d (cutTo left (x .cell) (x .value)) (removed left (x .cell) (x .value))
-    fewer = branch-branches (rowsOf board) d playable _ _ (look-of (rowsOf board) d (advise x share) e)
+  module _ (x : Candidate) (share : Float) (e : advise x share ≡ choose toLowest rows left) where
+    fewer : Branches rows d (first x) (second x)
+    fewer = branch-branches rows d playable _ _ (look-of rows d (advise x share) e)
 
-    pub level-free : h < boardCells
+    level-free : h < boardCells
     level-free = omega (arith, deep, small, fewer .first-open)
 
     -- what saving a level asks
-    pub may-save : (s : List ℕ) → s ≡ settle (rowsOf board) d .left
+    pub may-save : (s : List ℕ) → s ≡ left
         → (length s ≤ boardCells) × (stackSize ≤ length stack) × (h < boardCells) × (x .cell < length s) × (x .value < values) × (2 ^ x .value ≤ getD s (x .cell) 0)
     may-save s q =
-        let fits = advice-fits (rowsOf board) d (playable .accepted) x share e in
+        let fits = advice-fits rows d (playable .accepted) x share e in
         rw q (omega (arith, left-cells, small), way .stack-room, level-free, fits .0, fits .1, fits .2)
 
     pub step-on : (purse′ : Purse) (d′ stack′ : List ℕ) → purse .left ≢ 0 → purse′ .left ≡ purse .left - 1 → purse′ .followed ≡ purse .followed + 1
-        → d′ ≡ cutTo left (x .cell) (x .value) → stack′ ≡ saved stack h (removed left (x .cell) (x .value))
-        → Onward (rowsOf board) h purse d stack (h + 1) purse′ d′ stack′
+        → d′ ≡ first x → stack′ ≡ saved stack h (second x)
+        → Onward rows h purse d stack (h + 1) purse′ d′ stack′
     unfolding Roomy
     step-on purse′ d′ stack′ z l m p q =
-        let a = cutTo left (x .cell) (x .value) in
-        let b = removed left (x .cell) (x .value) in
-        let ds = levels (length d) h stack in
         let f : length d′ ≡ length d = ap length p ∙ fewer .first-within .cells in
-        let t : levels (length d′) (h + 1) stack′ ≡ removed left (x .cell) (x .value) ∷ levels (length d) h stack =
-        rw (f, q) (levels-saved (length d) h stack (removed left (x .cell) (x .value)) (fewer .second-within .cells) small (omega (arith, way .stack-room, level-free))) in
-        let found = all-branch (rowsOf board) d (cutTo left (x .cell) (x .value)) (removed left (x .cell) (x .value)) (levels (length d) h stack) playable (look-of (rowsOf board) d (advise x share) e) in
-        let whole : searchAll (rowsOf board) (trying (h + 1) d′ stack′) ≡ searchAll (rowsOf board) (cutTo left (x .cell) (x .value) ∷ removed left (x .cell) (x .value) ∷ levels (length d) h stack) =
-        ap₂ (λ (y : List ℕ) (ys : List (List ℕ)). searchAll (rowsOf board) (y ∷ ys)) p t in
+        let t : levels (length d′) (h + 1) stack′ ≡ second x ∷ levels (length d) h stack =
+        rw (f, q) (levels-saved (length d) h stack (second x) (fewer .second-within .cells) small (omega (arith, way .stack-room, level-free))) in
+        let found = on-advice x share e in
+        let whole : searchAll rows (trying (h + 1) d′ stack′) ≡ searchAll rows (both x) = ap₂ (λ (y : List ℕ) (ys : List (List ℕ)). searchAll rows (y ∷ ys)) p t in
         let o : purse′ .left + 1 ≡ purse .left = omega arith in
         record {
           same = record {
@@ -181,7 +191,7 @@ module _ {board : Board} {h : ℕ} {purse : Purse} {d stack forward backward : L
           };
           cells = f;
           roomy = rw (t, f) (
-            subst (λ (y : List ℕ). Playable (rowsOf board) y) (sym p) (fewer .first-playable),
+            subst (λ (y : List ℕ). Playable rows y) (sym p) (fewer .first-playable),
             refl,
             omega (arith, ap openCells p, fewer .first-open, way .roomy .2),
             (fewer .second-playable, fewer .second-within .cells, omega (arith, fewer .second-open, way .roomy .2), way .roomy .3),
@@ -222,10 +232,9 @@ module _ {board : Board} {purse : Purse} {d stack forward backward : List ℕ} w
 
 -- ---- the start
 
-module _ (board : Board) (sound : SoundBoard board) (d stack : List ℕ) (ok : Playable (rowsOf board) d) where
-  pub start-roomy : Roomy (rowsOf board) (length d) (trying 0 d stack)
-  unfolding Roomy levels
-  start-roomy = (ok, refl, omega (arith, open-most d), tt)
+pub start-roomy : (rs : List Row) (d stack : List ℕ) → Playable rs d → Roomy rs (length d) (trying 0 d stack)
+unfolding Roomy levels
+start-roomy rs d stack ok = (ok, refl, omega (arith, open-most d), tt)
 
 pub start-same : (rs : List Row) (left : ℕ) (d stack : List ℕ) → Same left (searchAll rs (trying 0 d stack)) left (searched rs d)
 unfolding levels

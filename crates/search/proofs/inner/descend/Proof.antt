@@ -36,7 +36,7 @@ loop-holds c =
       record {
         sound = s .pre .0;
         cells = s .pre .1;
-        roomy = start-roomy (s .args .board) (s .pre .0) (s .args .domains .now) (s .args .stack .now) ok;
+        roomy = start-roomy (rowsOf (s .args .board)) (s .args .domains .now) (s .args .stack .now) ok;
         stack-room = s .pre .2;
         forward-room = s .pre .3;
         backward-room = s .pre .4;

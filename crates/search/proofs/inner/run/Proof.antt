@@ -35,11 +35,14 @@ same-length-4 c = search needs
 
 returns : tie.Need-returns
 returns c =
-    let s = c .before .before .before .before .before .before .before .before .before .before .before .before .before .before .before .before .before .before .before .before .before .before .before .before .before .before .before .before .before in
-    let e = c .before .before .before .before .before .before .before .before .before .before .before .before .before .before .before .before .descend in
+    let clearing = c .before .before .before .before .before .before in
+    let descending = clearing .before .before .before .before .before .before .before .before .before .before in
+    let storing = descending .before .before .before .before .before .before .before in
+    let s = storing .before .before .before .before .before .before in
+    let e = descending .descend in
+    let start = stored-whole (s .args .board) (s .args .domains .now) _ (s .pre .1) (storing .store .ensures) in
     let n : length (e .last .1 .1 .1 .0) ≡ stackSize = search needs in (
-      ran (s .args .board) (s .args .choices) _ _ _ _ _ _ (e .last .1 .1 .1 .0) _ refl refl (stored-whole (s .args .board) (s .args .domains .now) _ (s .pre .1) (c .before .before .before .before .before .before .before .before .before .before .before .before .before .before .before .before .before .before .before .before .before .before .before .store .ensures))
-          (e .ensures .0) (c .before .before .leave .ensures) n (c .before .before .before .before .before .before .clear .ensures),
+      ran (s .args .board) (s .args .choices) _ _ _ _ _ _ (e .last .1 .1 .1 .0) _ refl refl start (e .ensures .0) (c .before .before .leave .ensures) n (clearing .clear .ensures),
       e .ensures .1,
     )
 

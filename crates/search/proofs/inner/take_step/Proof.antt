@@ -33,7 +33,8 @@ returns : tie.Need-returns
 returns c =
     let l = c .before .before .before .before .before .before .before .before .before in
     let s = l .before .before .before .before .before .before .before .before in
-    (step-none (s .pre) _ _ refl (ap told (sym (c .before .enum-told .given .1)) ∙ l .look .ensures .1 .0) (c .if1 .taken), l .look .ensures .1 .1)
+    let said = ap told (sym (c .before .enum-told .given .1)) ∙ l .look .ensures .1 .0 in
+    (step-none (s .pre) _ _ refl said (c .if1 .taken), l .look .ensures .1 .1)
 
 sub-g : tie.Need-sub-g
 sub-g c = search needs
@@ -70,7 +71,9 @@ returns-2 c =
     let l = c .before .before .before .before .before .before .before .before .before .before .before .before in
     let s = l .before .before .before .before .before .before .before .before in
     let k = c .before .before .before .before .cell .given in
-    (step-spent (s .pre) _ _ refl _ _ (ap told (sym (k .1)) ∙ l .look .ensures .1 .0) (none-left (s .args .purse) _ (c .before .before .after-choice .ensures .1) (c .if2 .taken)), l .look .ensures .1 .1)
+    let said = ap told (sym (k .1)) ∙ l .look .ensures .1 .0 in
+    let none = none-left (s .args .purse) _ (c .before .before .after-choice .ensures .1) (c .if2 .taken) in
+    (step-spent (s .pre) _ _ refl _ _ said none, l .look .ensures .1 .1)
 
 save-requires : tie.Need-save-requires
 save-requires c κs =
@@ -100,11 +103,10 @@ returns-3 : tie.Need-returns-3
 returns-3 c =
     let l = c .before .before .before .before .before .before .before .before .before .before .before .before .before .before in
     let s = l .before .before .before .before .before .before .before .before in
-    let here = settle-length (rowsOf (s .args .board)) (s .args .domains .now) in (
-      step-back (s .args .h) (s .pre) _ _ refl (ap told (sym (c .before .before .before .before .before .before .enum-told .given .1)) ∙ l .look .ensures .1 .0) (c .before .before .before .before .before .if1 .left)
-          (c .before .before .restore .ensures ∙ ap (λ (n : ℕ). level n (s .args .h - 1) (s .args .stack .now)) (ap length (l .look .ensures .0) ∙ here)),
-      l .look .ensures .1 .1,
-    )
+    let said = ap told (sym (c .before .before .before .before .before .before .enum-told .given .1)) ∙ l .look .ensures .1 .0 in
+    let cells = ap length (l .look .ensures .0) ∙ settle-length (rowsOf (s .args .board)) (s .args .domains .now) in
+    let back = c .before .before .restore .ensures ∙ ap (λ (n : ℕ). level n (s .args .h - 1) (s .args .stack .now)) cells in
+    (step-back (s .args .h) (s .pre) _ _ refl said (c .before .before .before .before .before .if1 .left) back, l .look .ensures .1 .1)
 
 same-length-11 : tie.Need-same-length-11
 same-length-11 c = search needs
@@ -119,7 +121,9 @@ returns-4 : tie.Need-returns-4
 returns-4 c =
     let l = c .before .before .before .before .before .before .before .before .before .before .before .before in
     let s = l .before .before .before .before .before .before .before .before in
-    (step-solved (s .pre) _ _ refl (ap told (sym (c .before .before .before .before .enum-told2 .given .1)) ∙ l .look .ensures .1 .0) (c .before .before .cut-all-to-lowest .ensures ∙ ap lowests (l .look .ensures .0)), l .look .ensures .1 .1)
+    let said = ap told (sym (c .before .before .before .before .enum-told2 .given .1)) ∙ l .look .ensures .1 .0 in
+    let cut = c .before .before .cut-all-to-lowest .ensures ∙ ap lowests (l .look .ensures .0) in
+    (step-solved (s .pre) _ _ refl said cut, l .look .ensures .1 .1)
 
 same-length-14 : tie.Need-same-length-14
 same-length-14 c = search needs
