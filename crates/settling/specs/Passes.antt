@@ -5,7 +5,7 @@ use mathlib.Core.List.{List, [], _∷_, _++_, List·Memᴰ·head, List·Memᴰ·
 use Prim.Native.Nat.{ℕ}
 use lib.ListN.{length, getD}
 use Rattle.counting.specs.Counting.{NoNewValue}
-use Rattle.settling.specs.Settling.{Row, _∈_, Names, Once, Domains, visit, pass, Consistent}
+use Rattle.settling.specs.Settling.{Row, _∈_, Loose, Once, Domains, visit, pass, Consistent}
 use Rattle.settling.specs.Families.{within-self, within-trans}
 use Rattle.settling.specs.Visits.{visit-length, visit-out, visit-within, visit-grows, visit-keeps, visit-supported, visit-domains}
 
@@ -64,7 +64,7 @@ pass-domains [] once d h = h
 pass-domains (r ∷ rs) once d h = pass-domains rs (theirs r rs once) (visit r d) (visit-domains r (mine r rs once) d h)
 
 -- a cell in no row keeps its domain
-pub pass-out : (rs : List Row) (d : List ℕ) (c : ℕ) → ((r : Row) → r ∈ rs → Names (r .cells) c → ⊥) → getD (pass rs d) c 0 ≡ getD d c 0
+pub pass-out : (rs : List Row) (d : List ℕ) (c : ℕ) → Loose rs c → getD (pass rs d) c 0 ≡ getD d c 0
 unfolding pass
 pass-out [] d c h = refl
 pass-out (r ∷ rs) d c h = pass-out rs (visit r d) c (theirs r rs h) ∙ visit-out r d c (mine r rs h)

@@ -8,7 +8,7 @@ use native.Mathlib.Omega.{arith}
 use borrow.Author.Tests.{ltb-true, ltb-false, lt-ltb, le-ltb}
 use lib.ListN.{length, getD}
 use Rattle.counting.specs.Counting.{size, NoNewValue}
-use Rattle.settling.specs.Settling.{Row, _∈_, Names, Domains, pass, after, strikes, passesAtMost, passesMade, UntilIdle, Settled, settle, Consistent, Largest}
+use Rattle.settling.specs.Settling.{Row, Loose, Domains, pass, after, strikes, passesAtMost, passesMade, UntilIdle, Settled, settle, Consistent, Largest}
 use Rattle.settling.specs.Families.{within-trans, size-grows, size-tight}
 use Rattle.settling.specs.Passes.{AllOnce, pass-length, pass-within, pass-grows, pass-keeps, pass-consistent, pass-domains, pass-out}
 
@@ -95,7 +95,7 @@ module _ (rs : List Row) where
       before d h n u (suc k) l = u k (omega arith)
 
   -- a cell in no row keeps its domain
-  pub settle-out : (c : ℕ) → ((r : Row) → r ∈ rs → Names (r .cells) c → ⊥)
+  pub settle-out : (c : ℕ) → Loose rs c
       → (d : List ℕ) → getD (settle rs d .left) c 0 ≡ getD d c 0
   settle-out c h = settle-rule (λ n d e. getD e c 0 ≡ getD d c 0) (λ d k. pass-out rs d c h) (λ n d e k q. q ∙ pass-out rs d c h)
 
