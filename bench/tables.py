@@ -113,19 +113,12 @@ def machine():
     return f"Measured {' '.join(lines('#')[0])}.\n"
 
 
-def search_machine():
-    """Where and when, if the searches were measured apart: then a second such line stands before theirs."""
-    apart = "Measured apart from the rest, with a library that has the search:"
-    return "".join(f"{apart} {' '.join(when)}.\n" for when in lines("#")[1:])
-
-
 TABLES = {
     "machine": machine,
     "kinds": kind_table,
     "inside": lambda: function_table("inside", "full", "passes"),
     "wide": wide_table,
     "growth": growth_table,
-    "search machine": search_machine,
     "search": search_table,
     "steps": step_table,
     "within": lambda: function_table("within", "planted", "pigeons"),

@@ -95,8 +95,7 @@ module _ (rs : List Row) where
       before d h n u (suc k) l = u k (omega arith)
 
   -- a cell in no row keeps its domain
-  pub settle-out : (c : ℕ) → Loose rs c
-      → (d : List ℕ) → getD (settle rs d .left) c 0 ≡ getD d c 0
+  pub settle-out : (c : ℕ) → Loose rs c → (d : List ℕ) → getD (settle rs d .left) c 0 ≡ getD d c 0
   settle-out c h = settle-rule (λ n d e. getD e c 0 ≡ getD d c 0) (λ d k. pass-out rs d c h) (λ n d e k q. q ∙ pass-out rs d c h)
 
 -- ---- what is left
