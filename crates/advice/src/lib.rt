@@ -1,4 +1,6 @@
 // Advice on a board file. Any input is taken; what is not a board file, or too little room, is refused.
+#![tactic(auto)]
+
 pub mod inner;
 
 ghost use Rattle.std.specs.Prelude.{◌≡◌, ◌≤◌, length, take};
@@ -18,7 +20,7 @@ use reader::{Outcome, read, refusal_of};
 use settle::Tally;
 
 // What settling a board and choosing a move answer, or the number for no.
-#[derive(Drop)]
+#[derive(Clone, Copy)]
 pub enum Answer {
     Advised { tally: Tally, advice: Advice },
     Refused(u8),

@@ -1,5 +1,7 @@
 // Strikes random rows by counting and by reachable sums, and prints in how many both agree in every domain and in the number struck.
 // Arguments: ROWS SEED. With fewer, 10,000 rows and the seed 1.
+#![tactic(auto)]
+
 ghost use Rattle.std.specs.Prelude.{◌≡◌, ◌<◌, ◌≤◌, length};
 ghost use Rattle.sizes.specs.Sizes.{row_cells, highest};
 ghost use Rattle.sizes.specs.Sound.{SoundRow};
@@ -25,14 +27,14 @@ const KINDS: u64 = 6;
 // From one row's seed to the next: 2 to the 64th by the golden ratio.
 const STRIDE: u64 = 11400714819323198485;
 
-#[derive(Drop)]
+#[derive(Clone, Copy)]
 struct Limits {
     low: usize,
     high: usize,
 }
 
 // Rows in which both agree, and the values that both strike there.
-#[derive(Drop)]
+#[derive(Clone, Copy)]
 struct Tally {
     agreed: u64,
     struck: u64,

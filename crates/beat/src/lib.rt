@@ -1,15 +1,17 @@
 // Which of two candidates beats the other, and the best so far.
+#![tactic(auto)]
+
 pub mod inner;
 
 // Which value goes first where densities and cells are equal.
-#[derive(Drop)]
+#[derive(Clone, Copy)]
 pub enum Ties {
     Lowest,
     Highest,
 }
 
 // A triple of row, cell and value, with its count and its row's total.
-#[derive(Drop)]
+#[derive(Clone, Copy)]
 pub struct Candidate {
     pub row: usize,
     pub cell: usize,
@@ -19,7 +21,7 @@ pub struct Candidate {
 }
 
 // The best so far, if there were any.
-#[derive(Drop)]
+#[derive(Clone, Copy)]
 pub enum Leader {
     Nobody,
     Leads(Candidate),

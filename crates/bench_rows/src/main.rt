@@ -1,5 +1,7 @@
 // Runs one method over a row of one kind a number of times, and prints a checksum: bench/run measures it beside the same loops in Rust.
 // Arguments: METHOD KIND TIMES. With fewer, every method over every kind, once.
+#![tactic(auto)]
+
 use digits::number_of;
 use libc::STDOUT_FILENO;
 use row::Answer;

@@ -1,4 +1,6 @@
 // The record of a board, laid out as C does, so that programs in other languages can hold one.
+#![tactic(auto)]
+
 pub mod inner;
 
 use sizes::{BOARD_CELLS, BOARD_ROWS, ROW_CELLS};
@@ -8,7 +10,7 @@ pub const MARK: usize = 0x4C53;
 
 // A row of a board. Its first len places hold its cells' numbers and their weights; the others are spare.
 #[repr(C)]
-#[derive(Drop)]
+#[derive(Clone, Copy)]
 pub struct Row {
     pub len: usize,
     pub low: usize,
@@ -19,7 +21,7 @@ pub struct Row {
 
 // A board, with any numbers in it. Its first cells places hold domains and its first rows places rows; the others are spare.
 #[repr(C)]
-#[derive(Drop)]
+#[derive(Clone, Copy)]
 pub struct Board {
     pub cells: usize,
     pub domains: [u32; BOARD_CELLS],

@@ -191,7 +191,7 @@ fn with_parts(
 }
 
 // A row's number, its limits and its total.
-#[derive(Drop)]
+#[derive(Clone, Copy)]
 struct Head {
     row: usize,
     low: usize,

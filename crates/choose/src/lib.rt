@@ -1,8 +1,10 @@
 // The choice of a move on a board whose domains are settled.
+#![tactic(auto)]
+
 pub mod inner;
 
 // What is advised. The share is for display: it decides nothing.
-#[derive(Drop)]
+#[derive(Clone, Copy)]
 pub enum Advice {
     Dead,
     Settled,

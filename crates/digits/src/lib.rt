@@ -1,4 +1,6 @@
 // Numbers as words of decimal digits, for programs that take them as arguments.
+#![tactic(auto)]
+
 ghost use Rattle.std.specs.Prelude.{◌≡◌};
 ghost use Rattle.digits.specs.Digits.{with_digit, spelled};
 

@@ -1,5 +1,7 @@
 // Searches the board file on standard input for a filling, with the number of choices that its argument spells, and prints how that
 // ended and what the domain room then holds.
+#![tactic(auto)]
+
 use digits::number_of;
 use libc::STDIN_FILENO;
 use lines::{cells, ended, refused, text};

@@ -1,4 +1,6 @@
 // Fractions of a count and a total: which of two is larger, exactly, and one as a double for display.
+#![tactic(auto)]
+
 pub mod inner;
 
 ghost use Rattle.std.specs.Prelude.{◌≡◌};
@@ -7,7 +9,7 @@ ghost use Rattle.fraction.specs.Rank.{told, rank_refuses, rank_says};
 use inner::ordered;
 
 // How the first fraction stands to the second.
-#[derive(Drop)]
+#[derive(Clone, Copy)]
 pub enum Ranking {
     Below,
     Equal,

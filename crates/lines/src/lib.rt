@@ -1,4 +1,6 @@
 // The lines that programs print, on standard output.
+#![tactic(auto)]
+
 use libc::STDOUT_FILENO;
 use sizes::{BOARD_CELLS, VALUES};
 

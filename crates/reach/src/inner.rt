@@ -115,7 +115,7 @@ fn mark_backward(weights: &[u8], domains: &[u32], low: usize, high: usize, t: &m
 // ---- striking
 
 // What is left of a domain, and how many of its values are gone.
-#[derive(Drop)]
+#[derive(Clone, Copy)]
 struct Cell {
     domain: u32,
     gone: usize,

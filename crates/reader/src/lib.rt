@@ -1,4 +1,6 @@
 // Reads a board file: from any bytes to a board, or to the number for no.
+#![tactic(auto)]
+
 ghost use Rattle.std.specs.Prelude.{◌≡◌, ◌+◌, ◌*◌, ◌≤◌, ◌<◌, length};
 ghost use Rattle.sizes.specs.Sizes.{row_cells, board_cells};
 ghost use Rattle.board.specs.Board.{filled};
@@ -13,27 +15,27 @@ use sizes::{BOARD_CELLS, BOARD_ROWS, FILE, ROW_CELLS};
 const TRAILER: usize = 6;
 
 // The reader's answer. What was read stands beside it.
-#[derive(Drop)]
+#[derive(Clone, Copy)]
 pub enum Outcome {
     Read,
     Refused(u8),
 }
 
-#[derive(Drop)]
+#[derive(Clone, Copy)]
 pub struct Reading {
     pub outcome: Outcome,
     pub board: Board,
 }
 
 // How many cells and rows a file's board has.
-#[derive(Drop)]
+#[derive(Clone, Copy)]
 pub enum Counts {
     Counted { cells: usize, rows: usize },
     Refused(u8),
 }
 
 // A board file with a place in it.
-#[derive(Drop)]
+#[derive(Clone, Copy)]
 pub struct FileReader<'a> {
     pub file: &'a [u8],
     pub place: usize,

@@ -1,4 +1,6 @@
 // Reports on the board file on standard input, in the lines of document 01.
+#![tactic(auto)]
+
 use advice::{Answer, advise};
 use board::{Board, Row};
 use choose::Advice;

@@ -77,7 +77,7 @@ pub fn strike(
 }
 
 // What is left of a cell's domain, and how many of its values are gone.
-#[derive(Drop)]
+#[derive(Clone, Copy)]
 struct Cell {
     kept: u32,
     gone: u64,

@@ -1,4 +1,6 @@
 // Counting in one row: the total, the count of a place and a value, and striking. Any input is taken; what is not a row is refused.
+#![tactic(auto)]
+
 pub mod inner;
 
 ghost use Rattle.std.specs.Prelude.{◌≡◌};
@@ -8,7 +10,7 @@ ghost use Rattle.row.specs.Answers.{told, lists_refuse, row_sizes_refuse, place_
 use sizes::{TABLE, VALUES, length_refuses, limits_refuse};
 
 // A number, or the number for no.
-#[derive(Drop)]
+#[derive(Clone, Copy)]
 pub enum Answer {
     Number(u64),
     Refused(u8),

@@ -1,4 +1,6 @@
 // Reads each board file that its arguments name and writes it again, then writes records that no file holds, and prints what came of each.
+#![tactic(auto)]
+
 use board::{Board, Row};
 use libc::STDOUT_FILENO;
 use reader::{Counts, Outcome};

@@ -1,4 +1,6 @@
 // Runs document 01's examples on fractions, and the numbers at their ends.
+#![tactic(auto)]
+
 use fraction::inner::share;
 use fraction::{Ranking, rank};
 use libc::STDOUT_FILENO;

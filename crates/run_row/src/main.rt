@@ -1,4 +1,6 @@
 // Runs the row calls on the Figure row, at the ends of every size, and past them, and prints what they answer and leave.
+#![tactic(auto)]
+
 mod ask;
 mod print;
 

@@ -1,5 +1,7 @@
 // Searches board files with numbers of choices, then two of them with rooms of other lengths, and prints what came of each.
 // Arguments: FILE CHOICES, and so on in pairs.
+#![tactic(auto)]
+
 ghost use Rattle.std.specs.Prelude.{◌+◌, ◌-◌, ◌^◌, ◌≤◌, ◌<◌, length};
 ghost use Rattle.io.specs.Counts.{IsPrefixLen};
 ghost use Rattle.sizes.specs.Sizes.{table_size, board_cells, stack_size};

@@ -1,4 +1,6 @@
 // Settles small boards and one of the largest, and prints the passes, the values struck and the domains left, as hexadecimal numbers.
+#![tactic(auto)]
+
 mod boards;
 
 ghost use Rattle.std.specs.Prelude.{◌≤◌};

@@ -21,7 +21,7 @@ use settle::inner::settle;
 use sizes::{BOARD_CELLS, STACK, VALUES};
 
 // How a search ends; after Solved its domains are the filling.
-#[derive(Drop)]
+#[derive(Clone, Copy)]
 pub enum Verdict {
     Solved,
     None,
@@ -29,14 +29,14 @@ pub enum Verdict {
 }
 
 // A step goes on with so many levels in use, or the search is over.
-#[derive(Drop)]
+#[derive(Clone, Copy)]
 enum Step {
     Again(usize, Purse),
     Over(Verdict, Purse),
 }
 
 // How a search ended, and what is left of its purse.
-#[derive(Drop)]
+#[derive(Clone, Copy)]
 pub struct Ended {
     pub verdict: Verdict,
     pub purse: Purse,

@@ -1,4 +1,6 @@
 // Finishing a board by search. Any input is taken; what is not a board file, or too little room, is refused.
+#![tactic(auto)]
+
 pub mod inner;
 mod purse;
 
@@ -13,7 +15,7 @@ use reader::{Outcome, read, refusal_of};
 use sizes::STACK;
 
 // What the search comes to, or the number for no. After Solved the filling stands in the domain room.
-#[derive(Drop)]
+#[derive(Clone, Copy)]
 pub enum Answer {
     Solved,
     None,

@@ -3,7 +3,7 @@ ghost use Rattle.std.specs.Prelude.{◌≡◌, ◌+◌, ◌^◌, ◌<◌};
 ghost use Rattle.search.specs.Purse.{taken, one_left};
 
 // The choices left, and those followed.
-#[derive(Drop)]
+#[derive(Clone, Copy)]
 pub struct Purse {
     pub left: u64,
     pub followed: u64,
@@ -23,7 +23,7 @@ fn take_choice(purse: &mut Purse) -> bool
 }
 
 // What the choosing step came to: whether a choice was left, and the purse afterwards.
-#[derive(Drop)]
+#[derive(Clone, Copy)]
 pub struct Paid {
     pub paid: bool,
     pub purse: Purse,

@@ -1,11 +1,13 @@
 // Settling a board: passes over its rows, each row visited by striking, until a pass strikes nothing.
+#![tactic(auto)]
+
 pub mod inner;
 
 ghost use Rattle.std.specs.Prelude.{◌≡◌, ◌+◌, ◌≤◌};
 ghost use Rattle.settle.specs.Settle.{board_values};
 
 // The passes made and the values struck so far.
-#[derive(Drop)]
+#[derive(Clone, Copy)]
 pub struct Tally {
     pub passes: usize,
     pub struck: usize,

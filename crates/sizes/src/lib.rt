@@ -1,4 +1,6 @@
 // The sizes of document 01 and of request R-1, each under one name, and the two refusals that every row shares.
+#![tactic(auto)]
+
 ghost use Rattle.std.specs.Prelude.{◌≡◌};
 ghost use Rattle.sizes.specs.Sizes.{length_refuses, limits_refuse};
 

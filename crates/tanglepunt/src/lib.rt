@@ -1,5 +1,7 @@
 // The library for programs in other languages: every public call under a plain name, its answer a struct of numbers.
 // In each answer `refused` is the number for no, or 0, and a field that the answer doesn't use is 0.
+#![tactic(auto)]
+
 ghost use Rattle.std.specs.Prelude.{◌≡◌};
 ghost use Rattle.fraction.specs.Rank.{told as rankTold, rank_says};
 ghost use Rattle.row.specs.Answers.{told as rowTold, total_says, count_says, strike_says, tables, row_leaves, count_leaves, strike_leaves};
@@ -26,7 +28,7 @@ use writer::{Writing, write};
 
 // A number: a total, a count, how many values were struck, or the length of a file.
 #[repr(C)]
-#[derive(Drop)]
+#[derive(Clone, Copy)]
 pub struct Number {
     pub refused: u8,
     pub number: u64,
@@ -34,7 +36,7 @@ pub struct Number {
 
 // How two fractions stand: order is 0 where the first is below, 1 where they are equal, 2 where it is above.
 #[repr(C)]
-#[derive(Drop)]
+#[derive(Clone, Copy)]
 pub struct Order {
     pub refused: u8,
     pub order: u8,
@@ -42,7 +44,7 @@ pub struct Order {
 
 // How many cells and rows a board has.
 #[repr(C)]
-#[derive(Drop)]
+#[derive(Clone, Copy)]
 pub struct Counts {
     pub refused: u8,
     pub cells: usize,
@@ -51,7 +53,7 @@ pub struct Counts {
 
 // A board; all zero where the file is refused.
 #[repr(C)]
-#[derive(Drop)]
+#[derive(Clone, Copy)]
 pub struct Reading {
     pub refused: u8,
     pub board: Board,
@@ -59,7 +61,7 @@ pub struct Reading {
 
 // What is advised: kind is 0 for Dead, 1 for Settled, 2 for Advise.
 #[repr(C)]
-#[derive(Drop)]
+#[derive(Clone, Copy)]
 pub struct Advice {
     pub refused: u8,
     pub kind: u8,
@@ -75,7 +77,7 @@ pub struct Advice {
 
 // How a search ended: ending is 0 for Solved, 1 for None, 2 for Spent.
 #[repr(C)]
-#[derive(Drop)]
+#[derive(Clone, Copy)]
 pub struct Ending {
     pub refused: u8,
     pub ending: u8,

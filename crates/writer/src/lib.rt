@@ -1,4 +1,6 @@
 // Writes a board file: from any record to its bytes in lent room, or to the number for no.
+#![tactic(auto)]
+
 ghost use Rattle.std.specs.Prelude.{◌≡◌, [], ◌∷◌, ◌+◌, ◌*◌, ◌%◌, ◌≤◌, ◌<◌, length};
 ghost use Rattle.sizes.specs.Sizes.{row_cells, board_cells, board_rows};
 ghost use Rattle.board.specs.Refusals.{board_refuses};
@@ -11,7 +13,7 @@ use board::{Board, MARK, Row};
 use sizes::{BOARD_CELLS, BOARD_ROWS, ROW_CELLS};
 
 // The writer's answer: the file's length.
-#[derive(Drop)]
+#[derive(Clone, Copy)]
 pub enum Writing {
     Written(usize),
     Refused(u8),
