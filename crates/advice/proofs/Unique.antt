@@ -1,6 +1,6 @@
 -- No second answer fits the contract of `advise`, nor other contents of its room and tables. Assumes nothing.
 use mathlib.Core.Path.{sym, ◌∙◌}
-use Rattle.told.specs.ToldLaws.{same_answer}
+use Rattle.told.proofs.ToldLaws.{same_answer}
 use Rattle.told.specs.Alone.{NoSecondAnswer}
 use Rattle.advice.specs.Advising.{told, rooms}
 use Rattle.advice.specs.StepLaws.{answer_of, answer_back}

@@ -3,7 +3,7 @@ use Rattle.std.specs.Prelude.{◌≡◌, refl, List, ◌++◌, ℕ, ◌≤◌, l
 use Rattle.std.proofs.Common.{sym, ap₂, ◌∙◌, ltb-false}
 use Rattle.std.proofs.Math.Path.{ap}
 use Rattle.told.specs.Told.{Told, refused, says, when}
-use Rattle.told.specs.ToldLaws.{neither, not_held}
+use Rattle.told.proofs.ToldLaws.{neither, not_held}
 use Rattle.sizes.specs.Sizes.{table_size, board_cells}
 use Rattle.listing.specs.Listing.{onto}
 use Rattle.listing.specs.Places.{place_length, onto_take, onto_drop}
@@ -14,11 +14,11 @@ use Rattle.reader.specs.File.{board_in}
 use Rattle.reader.specs.Reading.{file_refuses}
 use Rattle.reader.specs.ReadingLaws.{read_sound}
 use Rattle.settling.specs.Settling.{Settled, settle, Consistent}
-use Rattle.settling.specs.Settles.{settle_length}
+use Rattle.settling.proofs.Settles.{settle_length}
 use Rattle.settling.specs.Boards.{rows_of, settle_room}
 use Rattle.settle.specs.declared.Tally.{Tally}
 use Rattle.settle.specs.Settle.{tally_of}
-use Rattle.settling.specs.BoardLaws.{settled_consistent}
+use Rattle.settling.proofs.BoardLaws.{settled_consistent}
 use Rattle.choosing.specs.Choosing.{Choice, to_lowest, choose}
 use Rattle.choose.specs.AdviceLaws.{advice_of, advice_back}
 use Rattle.advice.specs.declared.Answer.{Answer}

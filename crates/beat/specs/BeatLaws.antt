@@ -12,7 +12,7 @@ use Rattle.fraction.specs.RankLaws.{compare_lt, compare_gt, compare_same}
 use Rattle.choosing.specs.Choosing.{Candidate, by_cell, by_value, by_row, by_ties, and_then, is_above, stands, beats}
 use Rattle.choosing.specs.Choosing as choosing
 use Rattle.choosing.specs.Going as going
-use Rattle.choosing.specs.GoingLaws.{through_none, through_one}
+use Rattle.choosing.proofs.GoingLaws.{through_none, through_one}
 use Rattle.beat.specs.declared.Ties.{Ties}
 use Rattle.beat.specs.declared.Ties.TheVariants.{Lowest, Highest}
 use Rattle.beat.specs.declared.Candidate.{Candidate as Cand}

@@ -3,7 +3,7 @@ use Rattle.std.specs.Prelude.{◌≡◌, List, ℕ, ◌<◌, get_or, eqb, ltb, l
 use Rattle.std.proofs.Common.{arith}
 use borrow.Author.Tests.{eqb-false, ltb-false, leb-false}
 use Rattle.told.specs.Told.{when}
-use Rattle.told.specs.ToldLaws.{neither, not_held, firsts_each, firsts_same}
+use Rattle.told.proofs.ToldLaws.{neither, not_held, firsts_each, firsts_same}
 use Rattle.sizes.specs.Sizes.{board_cells, board_rows, length_refuses, limits_refuse}
 use Rattle.sizes.specs.SizeLaws.{length_sound, limits_sound}
 use Rattle.board.specs.declared.Row.{Row}

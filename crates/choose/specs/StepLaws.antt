@@ -10,8 +10,8 @@ use Rattle.listing.specs.Sums.{sum_nil, sum_turn}
 use Rattle.listing.specs.Places.{place_length, place_at, place_member}
 use Rattle.listing.specs.Members.{flat_same, at_in}
 use Rattle.counting.specs.Counting.{lists, listed, count, total as counted}
-use Rattle.counting.specs.Counts.{count_total}
-use Rattle.counting.specs.Domains.{listed_ones}
+use Rattle.counting.proofs.Counts.{count_total}
+use Rattle.counting.proofs.Domains.{listed_ones}
 use Rattle.board.specs.declared.Row.{Row as Line}
 use Rattle.board.specs.declared.Board.{Board}
 use Rattle.board.specs.Board.{row_at}
@@ -24,8 +24,8 @@ use Rattle.layers.specs.TableLaws.{forward_length, backward_length, holds_onto}
 use Rattle.choosing.specs.Choosing.{Ties, no_row, domain_at, of_place, of_row, candidates}
 use Rattle.choosing.specs.Choosing as choosing
 use Rattle.choosing.specs.Going.{Leader, through}
-use Rattle.choosing.specs.GoingLaws.{through_none, through_end}
-use Rattle.choosing.specs.CandidateLaws.{of_value, place_several, place_few}
+use Rattle.choosing.proofs.GoingLaws.{through_none, through_end}
+use Rattle.choosing.proofs.CandidateLaws.{of_value, place_several, place_few}
 use Rattle.choose.specs.Steps.{SameRest, Ready}
 use Rattle.choose.specs.AdviceLaws.{filled_kept}
 

@@ -3,6 +3,3 @@ pub mod Promised
 pub mod CheckedExamples
 pub mod Orders
 pub mod Going
-pub mod GoingLaws
-pub mod CandidateLaws
-pub mod ChoiceLaws

@@ -1,11 +1,3 @@
 pub mod Counting
 pub mod CheckedExamples
-pub mod Domains
-pub mod Cuts
-pub mod Over
-pub mod Tables
-pub mod Counts
-pub mod Fillings
-pub mod Strikes
 pub mod Steps
-pub mod StepLaws

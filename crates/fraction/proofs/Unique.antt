@@ -1,6 +1,6 @@
 -- No second answer fits the contracts of `rank` and `share`. Assumes nothing.
 use mathlib.Core.Path.{refl, sym, ◌∙◌}
-use Rattle.told.specs.ToldLaws.{same_answer}
+use Rattle.told.proofs.ToldLaws.{same_answer}
 use Rattle.told.specs.Alone.{NoSecondAnswer}
 use Rattle.fraction.specs.Rank.{told}
 use Rattle.fraction.specs.RankLaws.{answer_of, answer_back}

@@ -8,7 +8,7 @@ use Prim.Native.Nat.{ℕ, zero, suc, ◌+◌, ◌*◌, ◌/◌, ◌%◌, ◌<◌
 use Rattle.std.proofs.Math.Nat.{mul_comm, lt_of_not-le, not-le_of_lt}
 use Rattle.std.specs.Float.Ieee.Nearest.{div_mono}
 use Rattle.told.specs.Told.{Told, refused, says, when}
-use Rattle.told.specs.ToldLaws.{neither, not_held}
+use Rattle.told.proofs.ToldLaws.{neither, not_held}
 use Rattle.fraction.specs.declared.Ranking.{Ranking}
 use Rattle.fraction.specs.declared.Ranking.TheVariants.{Below, Equal, Above, Refused}
 use Rattle.fraction.specs.Rank.{told, order, rank_refuses}

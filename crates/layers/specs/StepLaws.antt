@@ -11,7 +11,7 @@ use Rattle.sizes.specs.Sizes.{values, highest, sums}
 use Rattle.listing.specs.Written.{Written}
 use Rattle.listing.specs.Sums.{sum_cong}
 use Rattle.counting.specs.Counting.{within, listed, forward, backward}
-use Rattle.counting.specs.Tables.{forward_suc, backward_suc, backward_high}
+use Rattle.counting.proofs.Tables.{forward_suc, backward_suc, backward_high}
 use Rattle.layers.specs.Steps.{moved, step}
 
 -- the most that a weight times a value is

@@ -8,7 +8,7 @@ use Rattle.listing.specs.Written.{Written}
 use Rattle.listing.specs.Places.{place_length, place_at, onto_take}
 use Rattle.listing.specs.Writing.{written_as, written_onto}
 use Rattle.counting.specs.Counting.{forward, backward}
-use Rattle.counting.specs.Tables.{forward_le, backward_le}
+use Rattle.counting.proofs.Tables.{forward_le, backward_le}
 use Rattle.layers.specs.Tables.{at_entry, forward_table, backward_table}
 use Rattle.layers.specs.Steps.{Holds}
 

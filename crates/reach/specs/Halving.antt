@@ -9,7 +9,7 @@ use Rattle.sizes.specs.Sizes.{values}
 use Rattle.listing.specs.Listing.{only, how_many, sum_over, below}
 use Rattle.listing.specs.Sums.{when_grows, sum_turn, sum_short, sum_nil, sum_le, sum_mono, sum_only, how_many_sum, length_below}
 use Rattle.counting.specs.Counting.{lists, listed, domain_of}
-use Rattle.counting.specs.Domains.{sum_listed_only, domain_lt}
+use Rattle.counting.proofs.Domains.{sum_listed_only, domain_lt}
 use Rattle.words.specs.Words.{any}
 use Rattle.words.specs.Bits.{any_more, any_stop, bit_none}
 use Rattle.reach.specs.Reach.{brings, sum_to}

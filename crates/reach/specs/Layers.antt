@@ -12,8 +12,8 @@ use Rattle.sizes.specs.Sound.{SoundRow}
 use Rattle.listing.specs.Listing.{sum_over}
 use Rattle.listing.specs.Sums.{never}
 use Rattle.counting.specs.Counting.{lists, listed, within, forward, backward}
-use Rattle.counting.specs.Domains.{sum_listed}
-use Rattle.counting.specs.Tables.{forward_zero, forward_suc, backward_end, backward_suc, backward_high}
+use Rattle.counting.proofs.Domains.{sum_listed}
+use Rattle.counting.proofs.Tables.{forward_zero, forward_suc, backward_end, backward_suc, backward_high}
 use Rattle.words.specs.Words.{set_words, has, any, above_zero, Put}
 use Rattle.words.specs.Bits.{or_false, any_cong, above_sum, above_when}
 use Rattle.words.specs.Sets.{put_in, put_early, put_late}

@@ -11,10 +11,10 @@ use Rattle.sizes.specs.Sizes.{values, highest, sums}
 use Rattle.listing.specs.Listing.{only, sum_over, below}
 use Rattle.listing.specs.Sums.{when_both, when_cong, sum_cong_below}
 use Rattle.counting.specs.Counting.{lists, listed, domain_of, count, forward, backward, kept, gone}
-use Rattle.counting.specs.Domains.{sum_listed_only}
-use Rattle.counting.specs.Counts.{count_law}
+use Rattle.counting.proofs.Domains.{sum_listed_only}
+use Rattle.counting.proofs.Counts.{count_law}
 use Rattle.counting.specs.Steps.{StruckTo}
-use Rattle.counting.specs.StepLaws.{struck_here, struck_more}
+use Rattle.counting.proofs.StepLaws.{struck_here, struck_more}
 use Rattle.words.specs.Words.{word_bits, has, any, above_zero, both}
 use Rattle.words.specs.Bits.{any_cong, any_none, above_sum, above_times}
 use Rattle.reach.specs.Reach.{layer_word, layer_at, Marked, reached, leads, uses, Tables}

@@ -5,7 +5,7 @@ use Prim.Native.Nat.{ℕ, ◌+◌, ◌*◌, ◌≤◌, ◌<◌}
 use native.Mathlib.Numerals.{add-one}
 use native.Mathlib.Omega.{arith}
 use Rattle.told.specs.Told.{firsts}
-use Rattle.told.specs.ToldLaws.{firsts_stop, firsts_end, past_call, at_call}
+use Rattle.told.proofs.ToldLaws.{firsts_stop, firsts_end, past_call, at_call}
 use Rattle.sizes.specs.Sizes.{row_cells, board_cells}
 use Rattle.board.specs.Refusals.{pairs_refuse}
 use Rattle.board.specs.declared.Row.{Row}

@@ -13,7 +13,7 @@ use denote.Ref.{Bor}
 use denote.Triple.Clauses.{Ended, Clauses, AtExit}
 use denote.Triple.Entry.{Args, Res}
 use Rattle.told.specs.Told.{Told, refused, says}
-use Rattle.told.specs.ToldLaws.{same_answer}
+use Rattle.told.proofs.ToldLaws.{same_answer}
 use Rattle.told.specs.Alone.{NoSecondAnswer}
 use Rattle.board.specs.declared.Board.{Board}
 use Rattle.reader.specs.declared.Outcome.{Outcome}

@@ -2,7 +2,7 @@
 use Rattle.std.specs.Prelude.{◌≡◌, List, not, ℕ, ◌+◌, ◌*◌, ◌≤◌, length, eqb, ltb}
 use Rattle.std.proofs.Common.{arith, take_all, ltb-false, le-ltb}
 use Rattle.told.specs.Told.{when, first, firsts}
-use Rattle.told.specs.ToldLaws.{neither, not_held, not_differ, firsts_each}
+use Rattle.told.proofs.ToldLaws.{neither, not_held, not_differ, firsts_each}
 use Rattle.sizes.specs.Sizes.{file_size}
 use Rattle.board.specs.Refusals.{sizes_refuse, head_refuses, pairs_refuse, board_row_refuses}
 use Rattle.board.specs.RefusalLaws.{sizes_sound, head_sound}

@@ -1,7 +1,7 @@
 -- What a file that `read` accepts and its board are known to be, and what a caller knows that takes the answer apart. Assumes nothing.
 use Rattle.std.specs.Prelude.{◌≡◌, List, ℕ, ◌≤◌, ◌<◌, length}
 use Rattle.std.proofs.Common.{sym, ap, ◌∙◌}
-use Rattle.told.specs.ToldLaws.{firsts_zero, refused_back, says_back}
+use Rattle.told.proofs.ToldLaws.{firsts_zero, refused_back, says_back}
 use Rattle.sizes.specs.Sizes.{board_rows, file_size}
 use Rattle.board.specs.Refusals.{line_refuses, board_refuses}
 use Rattle.board.specs.declared.Board.{Board}

@@ -8,7 +8,7 @@ use native.Mathlib.Omega.{arith}
 use Rattle.std.proofs.Math.ListN.{length, length-append}
 use borrow.Author.Tests.{le-ltb}
 use Rattle.told.specs.Told.{firsts}
-use Rattle.told.specs.ToldLaws.{agree, firsts_each, firsts_zero, neither, both_none}
+use Rattle.told.proofs.ToldLaws.{agree, firsts_each, firsts_zero, neither, both_none}
 use Rattle.sizes.specs.Sizes.{row_cells, board_cells, board_rows, file_size}
 use Rattle.board.specs.declared.Row.{Row}
 use Rattle.board.specs.declared.Board.{Board}

@@ -2,7 +2,7 @@
 use Rattle.std.specs.Prelude.{◌≡◌, refl, List, ℕ, ◌^◌, ◌≤◌, ◌<◌, length, get_or, take}
 use Rattle.std.proofs.Common.{sym, ap}
 use Rattle.told.specs.Told.{says}
-use Rattle.told.specs.ToldLaws.{says_yes, says_back, leaves_new}
+use Rattle.told.proofs.ToldLaws.{says_yes, says_back, leaves_new}
 use Rattle.sizes.specs.Sizes.{file_size}
 use Rattle.listing.specs.Listing.{onto}
 use Rattle.listing.specs.Places.{onto_take}

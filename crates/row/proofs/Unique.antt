@@ -1,6 +1,6 @@
 -- No second answer fits the contracts of `total`, `count` and `strike`, the lent tables and domains included. Assumes nothing.
 use mathlib.Core.Path.{sym, ap₂, ◌∙◌}
-use Rattle.told.specs.ToldLaws.{same_answer}
+use Rattle.told.proofs.ToldLaws.{same_answer}
 use Rattle.told.specs.Alone.{NoSecondAnswer}
 use Rattle.row.specs.Answers.{told, tables, struck_rooms}
 use Rattle.row.specs.AnswerLaws.{answer_of, answer_back}

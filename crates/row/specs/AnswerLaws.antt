@@ -3,7 +3,7 @@ use Rattle.std.specs.Prelude.{◌≡◌, refl, not, List, ℕ, ◌<◌, eqb, ltb
 use Rattle.std.proofs.Common.{ap₂, eqb-true, ltb-false, leb-false}
 use Rattle.std.proofs.lemmas.Bool.{not-false}
 use Rattle.told.specs.Told.{Told, refused, says, when}
-use Rattle.told.specs.ToldLaws.{neither, not_held}
+use Rattle.told.proofs.ToldLaws.{neither, not_held}
 use Rattle.sizes.specs.Sizes.{values, table_size, length_refuses, limits_refuse}
 use Rattle.sizes.specs.SizeLaws.{length_sound, limits_sound}
 use Rattle.layers.specs.Steps.{Fillable}

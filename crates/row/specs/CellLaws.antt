@@ -10,9 +10,9 @@ use Rattle.sizes.specs.Sound.{SoundRow}
 use Rattle.listing.specs.Listing.{only, how_many, sum_over, below, onto}
 use Rattle.listing.specs.Sums.{when_cong, sum_only, sum_cong_below, sum_short, sum_nil, sum_part, how_many_sum, length_only}
 use Rattle.counting.specs.Counting.{lists, listed, domain_of, total, count, forward, backward, kept, gone}
-use Rattle.counting.specs.Domains.{sum_listed, listed_le, domain_lt}
-use Rattle.counting.specs.Tables.{backward_high, total_backward}
-use Rattle.counting.specs.Counts.{count_law, count_le}
+use Rattle.counting.proofs.Domains.{sum_listed, listed_le, domain_lt}
+use Rattle.counting.proofs.Tables.{backward_high, total_backward}
+use Rattle.counting.proofs.Counts.{count_law, count_le}
 use Rattle.layers.specs.Tables.{forward_table, backward_table}
 use Rattle.layers.specs.TableLaws.{fits, forward_length, forward_at, backward_length, backward_at, holds_room, holds_onto}
 use Rattle.row.specs.Cells.{Filled, through, ways, Countable, keeps, loses}

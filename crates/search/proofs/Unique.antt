@@ -1,6 +1,6 @@
 -- No second answer fits the contract of `search`, nor other choices remaining or other contents of its rooms and tables. Assumes nothing.
 use mathlib.Core.Path.{sym, ◌∙◌}
-use Rattle.told.specs.ToldLaws.{same_answer}
+use Rattle.told.proofs.ToldLaws.{same_answer}
 use Rattle.told.specs.Alone.{NoSecondAnswer}
 use Rattle.search.specs.Finishing.{told, lent}
 use Rattle.search.specs.RoomLaws.{answer_of, answer_back}

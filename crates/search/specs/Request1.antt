@@ -8,12 +8,12 @@ use Rattle.std.proofs.Math.Decide.{dec_lt}
 use Rattle.std.proofs.Math.ListN.{length, get_or, take, get_or-eq_default}
 use Rattle.std.proofs.lemmas.List.{length-map}
 use Rattle.told.specs.Told.{Told, refused, says, answer, leave}
-use Rattle.told.specs.ToldLaws.{neither}
+use Rattle.told.proofs.ToldLaws.{neither}
 use Rattle.sizes.specs.Sizes.{values, board_cells}
 use Rattle.listing.specs.Listing.{onto}
 use Rattle.listing.specs.Places.{place_length, place_at, onto_take}
 use Rattle.board.specs.BoardLaws.{filled_at}
-use Rattle.counting.specs.Over.{filling_length}
+use Rattle.counting.proofs.Over.{filling_length}
 use Rattle.reader.specs.File.{cells_in, domain_in, board_in}
 use Rattle.reader.specs.Reading.{file_refuses}
 use Rattle.settling.specs.Settling.{Row, Loose, Domains, BoardFilling}
@@ -22,7 +22,7 @@ use Rattle.advice.specs.Advising.{domains_of, settled_of}
 use Rattle.advice.specs.StepLaws.{read_is_sound, left_length}
 use Rattle.searching.specs.Searching.{lowest, needed, Ending, solved, none, spent, choices_left}
 use Rattle.searching.specs.Promised.{ShowsFilling, Playable}
-use Rattle.searching.specs.Request1 as board
+use Rattle.searching.proofs.Request1 as board
 use Rattle.search.specs.Finishing.{Word, it_is_solved, there_is_none, it_is_spent, word_of, domains_after, found_on, end_of, needed_on, lent_refuses, search_refuses, search_says, Lent, search_leaves}
 use Rattle.search.specs.StackLaws.{sound_playable}
 

@@ -4,13 +4,13 @@ use Rattle.std.proofs.Common.{sym, ap, ap₂, ◌∙◌, arith, ltb-false}
 use Rattle.std.proofs.lemmas.List.{length-replicate}
 use Rattle.std.proofs.Math.Seq.{take-length}
 use Rattle.told.specs.Told.{Told, refused, says, when}
-use Rattle.told.specs.ToldLaws.{neither, not_held}
+use Rattle.told.proofs.ToldLaws.{neither, not_held}
 use Rattle.sizes.specs.Sizes.{board_cells, table_size, stack_size}
 use Rattle.listing.specs.Listing.{onto}
 use Rattle.listing.specs.Places.{place_length, onto_all, onto_part}
 use Rattle.board.specs.declared.Board.{Board}
 use Rattle.settling.specs.Settling.{Settled, settle}
-use Rattle.settling.specs.Settles.{settle_length}
+use Rattle.settling.proofs.Settles.{settle_length}
 use Rattle.settling.specs.Boards.{rows_of, settle_room}
 use Rattle.advice.specs.Advising.{domains_of, settled_of, rooms_refuse}
 use Rattle.advice.specs.StepLaws.{left_length, rooms_sound}

@@ -14,17 +14,17 @@ use Rattle.listing.specs.Places.{map_at, onto_late}
 use Rattle.board.specs.declared.Board.{Board}
 use Rattle.board.specs.Sound.{SoundBoard}
 use Rattle.settling.specs.Settling.{Row, Domains, settle}
-use Rattle.settling.specs.Settles.{settle_length}
+use Rattle.settling.proofs.Settles.{settle_length}
 use Rattle.settling.specs.Boards.{rows_of}
-use Rattle.settling.specs.BoardLaws.{sound_accepted, rows_have_cells}
+use Rattle.settling.proofs.BoardLaws.{sound_accepted, rows_have_cells}
 use Rattle.choose.specs.Advice.{cleared}
 use Rattle.choose.specs.Steps.{SameRest}
 use Rattle.choosing.specs.Choosing.{Candidate, dead, settled, advise, to_lowest, choose}
 use Rattle.searching.specs.Searching.{lowest, lowests, cut_to, removed, Found, nothing, one, more, searched, ends, choices_left}
 use Rattle.searching.specs.Promised.{Playable}
 use Rattle.searching.specs.Levels.{search_all, open_cells}
-use Rattle.searching.specs.Looks.{Branches, open_most, look_of, advice_fits, branch_branches}
-use Rattle.searching.specs.Searches.{ends_enough, ends_more, left_more, ends_broke, left_broke, all_none, all_one, all_empty, all_filled, all_branch}
+use Rattle.searching.proofs.Looks.{Branches, open_most, look_of, advice_fits, branch_branches}
+use Rattle.searching.proofs.Searches.{ends_enough, ends_more, left_more, ends_broke, left_broke, all_none, all_one, all_empty, all_filled, all_branch}
 use Rattle.search.specs.declared.purse.Purse.{Purse}
 use Rattle.search.specs.declared.inner.Verdict.{Verdict}
 use Rattle.search.specs.declared.inner.Verdict.TheVariants as verdict

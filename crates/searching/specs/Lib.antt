@@ -3,8 +3,4 @@ pub mod CheckedExamples
 pub mod Promised
 pub mod Levels
 pub mod Lowest
-pub mod Looks
-pub mod Searches
-pub mod Request1
 pub mod CountedDown
-pub mod CountedDownLaws

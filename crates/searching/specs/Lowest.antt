@@ -7,7 +7,7 @@ use Rattle.sizes.specs.Sizes.{values}
 use Rattle.listing.specs.Listing.{only, below}
 use Rattle.listing.specs.Members.{no_members, in_below, below_small, only_in, in_only, only_append, at_in, in_at}
 use Rattle.counting.specs.Counting.{lists, listed}
-use Rattle.counting.specs.Domains.{listed_in, in_listed, lists_one}
+use Rattle.counting.proofs.Domains.{listed_in, in_listed, lists_one}
 use Rattle.searching.specs.Searching.{lowest}
 
 module _ (e : ℕ) (small : e < 2 ^ values) (some : e ≡ 0 → ⊥) where

@@ -5,7 +5,7 @@ use Rattle.std.proofs.Math.Decide.{ℕ_discrete}
 use Rattle.std.proofs.lemmas.List.{length-map}
 use Rattle.sizes.specs.Sizes.{values}
 use Rattle.counting.specs.Counting.{lists, listed, size, NoNewValue}
-use Rattle.counting.specs.Domains.{◌⇒◌}
+use Rattle.counting.proofs.Domains.{◌⇒◌}
 use Rattle.settling.specs.Settling.{Names, Inside, Once, gather, scatter}
 
 -- ---- what stands at some cells

@@ -4,8 +4,8 @@ use Rattle.std.proofs.Common.{sym, ◌∙◌, arith, get_or-set_same, get_or-set
 use Rattle.std.proofs.Math.Decide.{ℕ_discrete}
 use Rattle.sizes.specs.Sizes.{values}
 use Rattle.counting.specs.Counting.{lists, size, Filling, NoNewValue}
-use Rattle.counting.specs.Domains.{◌⇒◌, both, same_domain, listed_le, ones_most, ones_tight}
-use Rattle.counting.specs.Over.{filling_length, filling_at, filling_by}
+use Rattle.counting.proofs.Domains.{◌⇒◌, both, same_domain, listed_le, ones_most, ones_tight}
+use Rattle.counting.proofs.Over.{filling_length, filling_at, filling_by}
 use Rattle.settling.specs.Settling.{Domains}
 
 pub within_self : (d : List ℕ) → NoNewValue d d

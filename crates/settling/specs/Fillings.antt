@@ -9,9 +9,9 @@ use Rattle.listing.specs.Listing.{only, by_place}
 use Rattle.listing.specs.Sums.{and_left, and_right}
 use Rattle.listing.specs.Places.{place_length, place_at}
 use Rattle.counting.specs.Counting.{lists, listed, domain_of, NoNewValue}
-use Rattle.counting.specs.Domains.{lists_only}
-use Rattle.counting.specs.Over.{filling_length, filling_at, filling_by}
-use Rattle.counting.specs.Fillings.{good→count}
+use Rattle.counting.proofs.Domains.{lists_only}
+use Rattle.counting.proofs.Over.{filling_length, filling_at, filling_by}
+use Rattle.counting.proofs.Fillings.{good→count}
 use Rattle.settling.specs.Settling.{Row, ◌∈◌, Accepted, gather, RowFilling, Consistent, BoardFilling}
 use Rattle.settling.specs.Cells.{gather_length, gather_at}
 use Rattle.settling.specs.Visits.{listed_inside}

@@ -4,9 +4,5 @@ pub mod Families
 pub mod Cells
 pub mod Visits
 pub mod Passes
-pub mod Settles
 pub mod Fillings
-pub mod Tighter
-pub mod Demand3
 pub mod Boards
-pub mod BoardLaws

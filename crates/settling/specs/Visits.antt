@@ -6,9 +6,9 @@ use Rattle.std.proofs.Math.ListN.{get_or-eq_default}
 use Rattle.sizes.specs.Sizes.{values}
 use Rattle.counting.specs.Counting.{lists, size, strike, struck, NoNewValue}
 use Rattle.listing.specs.Sums.{never}
-use Rattle.counting.specs.Domains.{empty_lists}
-use Rattle.counting.specs.Fillings.{count_grows}
-use Rattle.counting.specs.Strikes.{strike_length, strike_shrinks, strike_lt, counted→kept, kept→counted, struck_size}
+use Rattle.counting.proofs.Domains.{empty_lists}
+use Rattle.counting.proofs.Fillings.{count_grows}
+use Rattle.counting.proofs.Strikes.{strike_length, strike_shrinks, strike_lt, counted→kept, kept→counted, struck_size}
 use Rattle.settling.specs.Settling.{Row, Names, Once, Fits, Domains, gather, scatter, row_count, row_strike, visit, Supported}
 use Rattle.settling.specs.Cells.{gather_length, gather_at, gather_within, named, scatter_length, scatter_out, scatter_at, size_scatter}
 

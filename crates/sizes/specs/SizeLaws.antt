@@ -3,7 +3,7 @@ use Rattle.std.specs.Prelude.{◌≡◌, refl, ℕ, suc, ◌+◌, ◌*◌, ◌�
 use Rattle.std.proofs.Common.{arith, ltb-false}
 use Rattle.std.proofs.lemmas.Bool.{eqb-false}
 use Rattle.told.specs.Told.{when}
-use Rattle.told.specs.ToldLaws.{neither, not_held}
+use Rattle.told.proofs.ToldLaws.{neither, not_held}
 use Rattle.sizes.specs.Sizes.{row_cells, highest, sums, table_size, board_cells, board_rows, stack_size, file_size, length_refuses, limits_refuse}
 
 pub length_sound : (n : ℕ) → length_refuses n ≡ 0 → (0 < n) × (n ≤ row_cells)

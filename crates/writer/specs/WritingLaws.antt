@@ -2,7 +2,7 @@
 use Rattle.std.specs.Prelude.{◌≡◌, List, ℕ, ◌≤◌, ◌<◌, length, ltb}
 use Rattle.std.proofs.Math.Path.{refl, sym}
 use borrow.Author.Tests.{lt-ltb, le-ltb, ltb-false}
-use Rattle.told.specs.ToldLaws.{past_call, at_call, past_last, at_last, neither, not_held}
+use Rattle.told.proofs.ToldLaws.{past_call, at_call, past_last, at_last, neither, not_held}
 use Rattle.board.specs.declared.Board.{Board}
 use Rattle.board.specs.Refusals.{board_refuses}
 use Rattle.writer.specs.Bytes.{file_of}

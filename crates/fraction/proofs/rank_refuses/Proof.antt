@@ -1,5 +1,5 @@
 -- `rank_refuses` meets its contract: each return is at one test and past those before it. Assumes nothing.
-use Rattle.told.specs.ToldLaws.{refusals}
+use Rattle.told.proofs.ToldLaws.{refusals}
 use Rattle.fraction.proofs.rank_refuses.Statement.{statement}
 use Rattle.fraction.proofs.rank_refuses.Tie as tie
 

@@ -1,7 +1,7 @@
 -- `reader::board_counts` meets its contract: the answer taken apart has the refusal, or a board whose numbers of cells and rows are the file's. Assumes nothing.
 use native.Mathlib.Omega.{arith}
 use mathlib.Core.Path.{refl}
-use Rattle.told.specs.ToldLaws.{says_no, says_yes}
+use Rattle.told.proofs.ToldLaws.{says_no, says_yes}
 use Rattle.reader.specs.File.{board_in}
 use Rattle.reader.specs.ReadingLaws.{said_read, said_refused}
 use Rattle.reader.proofs.board_counts.Statement.{statement}

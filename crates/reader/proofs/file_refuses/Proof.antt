@@ -2,7 +2,7 @@
 use mathlib.Core.Path.{sym, ◌∙◌}
 use native.Mathlib.Omega.{arith}
 use lib.ListN.{length}
-use Rattle.told.specs.ToldLaws.{past_call, at_call}
+use Rattle.told.proofs.ToldLaws.{past_call, at_call}
 use Rattle.reader.specs.Reading.{file_refuses}
 use Rattle.reader.specs.FileLaws.{long_enough, trailer_sound}
 use Rattle.reader.proofs.file_refuses.Statement.{statement}

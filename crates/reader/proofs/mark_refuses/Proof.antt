@@ -1,5 +1,5 @@
 -- `reader::mark_refuses` meets its contract: each return is at one test and past those before it. Assumes nothing.
-use Rattle.told.specs.ToldLaws.{refusals}
+use Rattle.told.proofs.ToldLaws.{refusals}
 use Rattle.reader.proofs.mark_refuses.Statement.{statement}
 use Rattle.reader.proofs.mark_refuses.Tie as tie
 

@@ -2,7 +2,7 @@
 use native.Mathlib.Omega.{arith}
 use mathlib.Core.Path.{sym, ap, ◌∙◌}
 use Rattle.told.specs.Told.{says}
-use Rattle.told.specs.ToldLaws.{says_no, says_yes, leaves_held, leaves_new}
+use Rattle.told.proofs.ToldLaws.{says_no, says_yes, leaves_held, leaves_new}
 use Rattle.reader.proofs.read_whole.Statement.{statement}
 use Rattle.reader.proofs.read_whole.Tie as tie
 

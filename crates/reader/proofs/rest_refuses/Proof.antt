@@ -1,5 +1,5 @@
 -- `reader::rest_refuses` meets its contract: each return is at one test and past those before it. Assumes nothing.
-use Rattle.told.specs.ToldLaws.{refusals}
+use Rattle.told.proofs.ToldLaws.{refusals}
 use Rattle.reader.proofs.rest_refuses.Statement.{statement}
 use Rattle.reader.proofs.rest_refuses.Tie as tie
 

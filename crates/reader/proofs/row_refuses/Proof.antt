@@ -5,7 +5,7 @@ use Prim.Native.Nat.{◌+◌, ◌≤◌, ◌<◌}
 use native.Mathlib.Omega.{arith}
 use lib.Dec.{ltb}
 use borrow.Author.Tests.{lt-ltb, le-ltb}
-use Rattle.told.specs.ToldLaws.{past, at, past_call, at_call}
+use Rattle.told.proofs.ToldLaws.{past, at, past_call, at_call}
 use Rattle.board.specs.Refusals.{head_refuses}
 use Rattle.board.specs.RefusalLaws.{head_sound}
 use Rattle.reader.specs.File.{byte, two, trailer, row_end}

@@ -4,7 +4,7 @@ use Prim.Native.Nat.{◌+◌, ◌-◌, ◌≤◌}
 use native.Mathlib.Omega.{arith}
 use lib.ListN.{length}
 use Rattle.told.specs.Told.{firsts}
-use Rattle.told.specs.ToldLaws.{firsts_start, firsts_next}
+use Rattle.told.proofs.ToldLaws.{firsts_start, firsts_next}
 use Rattle.reader.specs.File.{row_place}
 use Rattle.reader.specs.Reading.{row_in_refuses, line_in_refuses}
 use Rattle.reader.specs.FileLaws.{row_in_sound}

@@ -1,6 +1,6 @@
 -- `reader::start_refuses` meets its contract: each return is at one test and past those before it. Assumes nothing.
 use native.Mathlib.Omega.{arith}
-use Rattle.told.specs.ToldLaws.{refusals}
+use Rattle.told.proofs.ToldLaws.{refusals}
 use Rattle.reader.proofs.start_refuses.Statement.{statement}
 use Rattle.reader.proofs.start_refuses.Tie as tie
 

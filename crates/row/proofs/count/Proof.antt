@@ -4,7 +4,7 @@ use Prim.Native.Nat.{◌<◌}
 use lib.ListN.{length}
 use borrow.Author.Rules.{rules}
 use Rattle.told.specs.Told.{says}
-use Rattle.told.specs.ToldLaws.{neither, says_no, says_yes, leaves_held, leaves_new}
+use Rattle.told.proofs.ToldLaws.{neither, says_no, says_yes, leaves_held, leaves_new}
 use Rattle.sizes.specs.Sizes.{values}
 use Rattle.layers.specs.Steps.{Fillable}
 use Rattle.row.specs.Answers.{row_refuses, place_refuses}

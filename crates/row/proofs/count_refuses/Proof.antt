@@ -1,6 +1,6 @@
 -- `count_refuses` meets its contract: each return is at one test and past those before it. Assumes nothing.
 use borrow.Author.Rules.{rules}
-use Rattle.told.specs.ToldLaws.{at_call, past_call, refusals}
+use Rattle.told.proofs.ToldLaws.{at_call, past_call, refusals}
 use Rattle.row.proofs.count_refuses.Statement.{statement}
 use Rattle.row.proofs.count_refuses.Tie as tie
 

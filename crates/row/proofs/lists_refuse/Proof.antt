@@ -3,7 +3,7 @@ use mathlib.Core.Path.{ap}
 use mathlib.Core.Bool.{not}
 use borrow.Author.Rules.{rules}
 use borrow.Author.Tests.{eq-eqb, ne_eqb}
-use Rattle.told.specs.ToldLaws.{at_call, past_call, at_last, past_last}
+use Rattle.told.proofs.ToldLaws.{at_call, past_call, at_last, past_last}
 use Rattle.row.proofs.lists_refuse.Statement.{statement}
 use Rattle.row.proofs.lists_refuse.Tie as tie
 

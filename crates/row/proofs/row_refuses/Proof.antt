@@ -1,6 +1,6 @@
 -- `row_refuses` meets its contract: each return is at one test and past those before it. Assumes nothing.
 use borrow.Author.Rules.{rules}
-use Rattle.told.specs.ToldLaws.{at_call, past_call, refusals}
+use Rattle.told.proofs.ToldLaws.{at_call, past_call, refusals}
 use Rattle.row.proofs.row_refuses.Statement.{statement}
 use Rattle.row.proofs.row_refuses.Tie as tie
 

@@ -2,7 +2,7 @@
 use mathlib.Core.Path.{refl, sym, ap, ◌∙◌}
 use borrow.Author.Rules.{rules}
 use Rattle.told.specs.Told.{says}
-use Rattle.told.specs.ToldLaws.{says_no, says_yes, leaves_held, leaves_new}
+use Rattle.told.proofs.ToldLaws.{says_no, says_yes, leaves_held, leaves_new}
 use Rattle.row.specs.AnswerLaws.{row_sound, same_tables}
 use Rattle.row.proofs.total.Statement.{statement}
 use Rattle.row.proofs.total.Tie as tie

@@ -3,7 +3,7 @@ use native.Mathlib.Omega.{arith}
 use borrow.Author.Tests.{lt-ltb, le-ltb}
 use lib.Dec.{ltb}
 use Rattle.sizes.specs.Sizes.{stack_size}
-use Rattle.told.specs.ToldLaws.{past_call, at_call, past_last, at_last}
+use Rattle.told.proofs.ToldLaws.{past_call, at_call, past_last, at_last}
 use borrow.Author.Rules.{rules}
 use Rattle.search.proofs.lent_refuses.Statement.{statement}
 use Rattle.search.proofs.lent_refuses.Tie as tie

@@ -4,7 +4,7 @@ use mathlib.Core.Path.{◌≡◌, refl, sym, ap, ◌∙◌}
 use Prim.Native.Nat.{◌-◌, ◌≤◌}
 use lib.ListN.{length}
 use Rattle.told.specs.Told.{says}
-use Rattle.told.specs.ToldLaws.{says_no, says_yes, leaves_held, leaves_new, past_call, at_call}
+use Rattle.told.proofs.ToldLaws.{says_no, says_yes, leaves_held, leaves_new, past_call, at_call}
 use Rattle.sizes.specs.Sizes.{table_size, board_cells, stack_size}
 use Rattle.listing.specs.Listing.{onto}
 use Rattle.board.specs.declared.Board.{Board}

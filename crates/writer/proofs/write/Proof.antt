@@ -4,7 +4,7 @@ use Prim.Native.Nat.{◌<◌, ◌≤◌}
 use native.Mathlib.Omega.{arith}
 use lib.ListN.{length}
 use Rattle.told.specs.Told.{says}
-use Rattle.told.specs.ToldLaws.{says_no, says_yes, leaves_held, leaves_new}
+use Rattle.told.proofs.ToldLaws.{says_no, says_yes, leaves_held, leaves_new}
 use Rattle.writer.specs.Bytes.{file_of}
 use Rattle.writer.specs.WritingLaws.{refused_board, refused_room, accepted}
 use Rattle.writer.proofs.Runs.{put_front}

@@ -1,5 +1,5 @@
 -- `inner::rooms_refuse` meets its contract: each return is at one test and past those before it. Assumes nothing.
-use Rattle.told.specs.ToldLaws.{refusals}
+use Rattle.told.proofs.ToldLaws.{refusals}
 use Rattle.advice.proofs.inner.rooms_refuse.Statement.{statement}
 use Rattle.advice.proofs.inner.rooms_refuse.Tie as tie
 

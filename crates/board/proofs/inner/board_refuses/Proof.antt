@@ -1,7 +1,7 @@
 -- `board::inner::board_refuses` meets its contract: it is refused by its sizes, or by its rows, and then their number is known. Assumes nothing.
 use native.Mathlib.Omega.{arith}
 use mathlib.Core.Path.{sym, ◌∙◌}
-use Rattle.told.specs.ToldLaws.{past_call, at_call}
+use Rattle.told.proofs.ToldLaws.{past_call, at_call}
 use Rattle.board.specs.Refusals.{board_refuses}
 use Rattle.board.specs.RefusalLaws.{sizes_sound}
 use Rattle.board.proofs.inner.board_refuses.Statement.{statement}

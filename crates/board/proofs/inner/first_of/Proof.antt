@@ -1,6 +1,6 @@
 -- `board::inner::first_of` meets its contract: a refusal that is not 0 is the first, and 0 is none. Assumes nothing.
 use mathlib.Core.Path.{refl}
-use Rattle.told.specs.ToldLaws.{past_call, at_call}
+use Rattle.told.proofs.ToldLaws.{past_call, at_call}
 use Rattle.board.proofs.inner.first_of.Statement.{statement}
 use Rattle.board.proofs.inner.first_of.Tie as tie
 

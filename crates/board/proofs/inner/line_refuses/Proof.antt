@@ -1,7 +1,7 @@
 -- `board::inner::line_refuses` meets its contract: it is refused by its head, or by its pairs, and then its length is known. Assumes nothing.
 use native.Mathlib.Omega.{arith}
 use mathlib.Core.Path.{sym, ◌∙◌}
-use Rattle.told.specs.ToldLaws.{past_call, at_call}
+use Rattle.told.proofs.ToldLaws.{past_call, at_call}
 use Rattle.board.specs.Refusals.{board_row_refuses}
 use Rattle.board.specs.RefusalLaws.{head_sound}
 use Rattle.board.proofs.inner.line_refuses.Statement.{statement}

@@ -3,7 +3,7 @@ use Prim.Native.Nat.{◌-◌, ◌≤◌}
 use mathlib.Core.Path.{◌≡◌}
 use native.Mathlib.Omega.{arith}
 use Rattle.told.specs.Told.{firsts}
-use Rattle.told.specs.ToldLaws.{firsts_start, firsts_next, firsts_stop, firsts_end}
+use Rattle.told.proofs.ToldLaws.{firsts_start, firsts_next, firsts_stop, firsts_end}
 use Rattle.board.specs.Refusals.{pair_refuses}
 use Rattle.board.proofs.inner.pairs_refuse.Statement.{statement}
 use Rattle.board.proofs.inner.pairs_refuse.Tie as tie

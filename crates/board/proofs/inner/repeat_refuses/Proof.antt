@@ -6,7 +6,7 @@ use lib.ListN.{get_or}
 use borrow.Author.Tests.{eq-eqb, ne_eqb}
 use Rattle.sizes.specs.Sizes.{row_cells}
 use Rattle.told.specs.Told.{firsts}
-use Rattle.told.specs.ToldLaws.{firsts_start, firsts_next, firsts_stop, firsts_end}
+use Rattle.told.proofs.ToldLaws.{firsts_start, firsts_next, firsts_stop, firsts_end}
 use Rattle.board.specs.Refusals.{same_name, repeat_refuses}
 use Rattle.board.proofs.inner.repeat_refuses.Statement.{statement}
 use Rattle.board.proofs.inner.repeat_refuses.Tie as tie

@@ -1,5 +1,5 @@
 -- `board::inner::sizes_refuse` meets its contract: each return is at one test and past those before it. Assumes nothing.
-use Rattle.told.specs.ToldLaws.{refusals}
+use Rattle.told.proofs.ToldLaws.{refusals}
 use Rattle.board.specs.Refusals.{sizes_refuse}
 use Rattle.board.proofs.inner.sizes_refuse.Statement.{statement}
 use Rattle.board.proofs.inner.sizes_refuse.Tie as tie

@@ -1,5 +1,5 @@
 -- `board::inner::unknown_refuses` meets its contract: each return is at its test or past it. Assumes nothing.
-use Rattle.told.specs.ToldLaws.{refusals}
+use Rattle.told.proofs.ToldLaws.{refusals}
 use Rattle.board.proofs.inner.unknown_refuses.Statement.{statement}
 use Rattle.board.proofs.inner.unknown_refuses.Tie as tie
 

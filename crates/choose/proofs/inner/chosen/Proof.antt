@@ -4,9 +4,9 @@ use native.Mathlib.Omega.{arith}
 use borrow.Author.Rules.{rules}
 use Rattle.settling.specs.Settling.{Accepted}
 use Rattle.settling.specs.Boards.{rows_of}
-use Rattle.settling.specs.BoardLaws.{sound_accepted}
+use Rattle.settling.proofs.BoardLaws.{sound_accepted}
 use Rattle.choosing.specs.Going.{outcome}
-use Rattle.choosing.specs.ChoiceLaws.{dies, by_going, leader_fits}
+use Rattle.choosing.proofs.ChoiceLaws.{dies, by_going, leader_fits}
 use Rattle.beat.specs.Beat.{ties_of, candidate_of, leader_of}
 use Rattle.choose.specs.StepLaws.{rows_short}
 use Rattle.choose.proofs.inner.chosen.Statement.{statement}

@@ -5,7 +5,7 @@ use native.Mathlib.Omega.{arith}
 use borrow.Author.Rules.{rules}
 use lib.ListN.{length, drop}
 use Rattle.choosing.specs.Choosing.{some_empty}
-use Rattle.choosing.specs.ChoiceLaws.{empty_here, empty_on, empty_end}
+use Rattle.choosing.proofs.ChoiceLaws.{empty_here, empty_on, empty_end}
 use Rattle.choose.proofs.inner.some_empty.Statement.{statement}
 use Rattle.choose.proofs.inner.some_empty.Tie as tie
 

@@ -9,8 +9,8 @@ use Rattle.sizes.specs.Sizes.{values}
 use Rattle.listing.specs.Listing.{below}
 use Rattle.choosing.specs.Choosing.{Candidate}
 use Rattle.choosing.specs.Going.{through}
-use Rattle.choosing.specs.GoingLaws.{through_start, through_turn}
-use Rattle.choosing.specs.CandidateLaws.{of_value}
+use Rattle.choosing.proofs.GoingLaws.{through_start, through_turn}
+use Rattle.choosing.proofs.CandidateLaws.{of_value}
 use Rattle.beat.specs.Beat.{ties_of, leader_of, HasTotal}
 use Rattle.settling.specs.Boards.{row_with}
 use Rattle.choose.specs.StepLaws.{few_values, many_values, ready_place, ready_total, ready_value}

@@ -8,7 +8,7 @@ use lib.ListN.{length}
 use Rattle.listing.specs.Listing.{below}
 use Rattle.choosing.specs.Choosing.{Candidate, of_place, of_row}
 use Rattle.choosing.specs.Going.{through}
-use Rattle.choosing.specs.GoingLaws.{through_start, through_turn, through_end}
+use Rattle.choosing.proofs.GoingLaws.{through_start, through_turn, through_end}
 use Rattle.beat.specs.Beat.{ties_of, leader_of, HasTotal}
 use Rattle.settling.specs.Boards.{row_with}
 use Rattle.choose.proofs.inner.with_places.Statement.{statement}

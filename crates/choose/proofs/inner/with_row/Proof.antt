@@ -8,7 +8,7 @@ use lib.Seq.{length-take-le}
 use Rattle.sizes.specs.Sizes.{row_cells}
 use Rattle.settling.specs.Settling.{Row, Supported}
 use Rattle.settling.specs.Boards.{row_with, row_of}
-use Rattle.settling.specs.BoardLaws.{row_fronts, sound_fits}
+use Rattle.settling.proofs.BoardLaws.{row_fronts, sound_fits}
 use Rattle.choose.proofs.inner.with_row.Statement.{statement}
 use Rattle.choose.proofs.inner.with_row.Tie as tie
 

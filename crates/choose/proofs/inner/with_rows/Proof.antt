@@ -10,7 +10,7 @@ use Rattle.board.specs.Board.{row_at}
 use Rattle.settling.specs.Boards.{row_of}
 use Rattle.choosing.specs.Choosing.{Candidate, of_row}
 use Rattle.choosing.specs.Going.{through}
-use Rattle.choosing.specs.GoingLaws.{through_start, through_turn, through_end}
+use Rattle.choosing.proofs.GoingLaws.{through_start, through_turn, through_end}
 use Rattle.beat.specs.Beat.{ties_of, leader_of, HasTotal}
 use Rattle.choose.specs.Steps.{SameRest}
 use Rattle.choose.specs.StepLaws.{rows_candidates, row_in}

@@ -8,7 +8,7 @@ use Rattle.sizes.specs.Sizes.{sums}
 use Rattle.listing.specs.Written.{Written}
 use Rattle.listing.specs.Writing.{written_none, written_down}
 use Rattle.counting.specs.Counting.{backward}
-use Rattle.counting.specs.Tables.{backward_end}
+use Rattle.counting.proofs.Tables.{backward_end}
 use Rattle.layers.specs.Tables.{at_entry}
 use Rattle.layers.specs.Steps.{step}
 use Rattle.layers.specs.StepLaws.{backward_step}

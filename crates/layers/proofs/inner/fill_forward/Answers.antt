@@ -8,7 +8,7 @@ use Rattle.sizes.specs.Sizes.{sums}
 use Rattle.listing.specs.Written.{Written}
 use Rattle.listing.specs.Writing.{written_none, written_up}
 use Rattle.counting.specs.Counting.{forward}
-use Rattle.counting.specs.Tables.{forward_zero}
+use Rattle.counting.proofs.Tables.{forward_zero}
 use Rattle.layers.specs.Tables.{at_entry}
 use Rattle.layers.specs.Steps.{step}
 use Rattle.layers.specs.StepLaws.{nothing, forward_step}

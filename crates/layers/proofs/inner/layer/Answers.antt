@@ -6,7 +6,7 @@ use borrow.Author.Rules.{rules}
 use lib.ListN.{get_or-replicate}
 use Rattle.sizes.specs.Sizes.{values, sums}
 use Rattle.listing.specs.Sums.{sum_nil, sum_turn, sum_part}
-use Rattle.counting.specs.Domains.{sum_listed}
+use Rattle.counting.proofs.Domains.{sum_listed}
 use Rattle.layers.specs.Steps.{moved}
 use Rattle.layers.proofs.inner.layer.Goals as goal
 use Rattle.layers.proofs.inner.layer.Invariants.{brings}

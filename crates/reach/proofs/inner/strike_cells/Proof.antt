@@ -4,7 +4,7 @@ use Prim.Native.Nat.{◌+◌, ◌-◌, ◌≤◌}
 use native.Mathlib.Omega.{arith}
 use lib.ListN.{length, set}
 use Rattle.counting.specs.Steps.{StruckTo}
-use Rattle.counting.specs.StepLaws.{struck_none, struck_fits, struck_all}
+use Rattle.counting.proofs.StepLaws.{struck_none, struck_fits, struck_all}
 use Rattle.reach.specs.Reach.{Tables}
 use Rattle.reach.specs.Uses.{used_more}
 use borrow.Author.Rules.{rules}

@@ -3,7 +3,7 @@ use mathlib.Core.Path.{sym, ap, ◌∙◌}
 use mathlib.Core.Bool.{not}
 use native.Mathlib.Omega.{arith}
 use borrow.Author.Tests.{not-true, not-false}
-use Rattle.counting.specs.StepLaws.{value_bit}
+use Rattle.counting.proofs.StepLaws.{value_bit}
 use Rattle.reach.specs.Halving.{brings_fits, unlisted_brings, failed_brings, passed_brings}
 use borrow.Author.Rules.{rules}
 use Rattle.reach.proofs.inner.verdict.Statement.{statement}

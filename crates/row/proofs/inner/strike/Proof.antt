@@ -7,7 +7,7 @@ use lib.ListN.{length, get_or, set}
 use Rattle.sizes.specs.Sizes.{values}
 use Rattle.listing.specs.Listing.{sum_over, below}
 use Rattle.counting.specs.Steps.{StruckTo}
-use Rattle.counting.specs.StepLaws.{struck_none, struck_here, struck_more, struck_fits, struck_all}
+use Rattle.counting.proofs.StepLaws.{struck_none, struck_here, struck_more, struck_fits, struck_all}
 use Rattle.row.specs.Cells.{ways, keeps, loses}
 use Rattle.row.specs.CellLaws.{countable, kept_there, gone_there}
 use Rattle.row.proofs.inner.strike.Statement.{statement}

@@ -4,7 +4,7 @@ use native.Mathlib.Omega.{arith}
 use borrow.Author.Rules.{rules}
 use borrow.Author.Tests.{eq-eqb, ne_eqb}
 use Rattle.layers.specs.StepLaws.{heaviest}
-use Rattle.counting.specs.StepLaws.{value_bit}
+use Rattle.counting.proofs.StepLaws.{value_bit}
 use Rattle.row.specs.CellLaws.{ways_ready}
 use Rattle.row.proofs.inner.strike_value.Statement.{statement}
 use Rattle.row.proofs.inner.strike_value.Tie as tie

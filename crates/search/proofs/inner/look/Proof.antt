@@ -3,8 +3,8 @@ use mathlib.Core.Path.{ap, ◌∙◌}
 use borrow.Author.Rules.{rules}
 use lib.ListN.{length}
 use Rattle.settling.specs.Boards.{rows_of}
-use Rattle.settling.specs.Settles.{settle_length}
-use Rattle.settling.specs.BoardLaws.{settled_consistent}
+use Rattle.settling.proofs.Settles.{settle_length}
+use Rattle.settling.proofs.BoardLaws.{settled_consistent}
 use Rattle.choosing.specs.Choosing.{to_lowest, choose}
 use Rattle.search.specs.RoomLaws.{settles_whole}
 use Rattle.search.proofs.inner.look.Statement.{statement}

@@ -1,6 +1,6 @@
 -- `inner::only` meets its contract: the power fits 32 bits. Assumes nothing.
 use borrow.Author.Rules.{rules}
-use Rattle.counting.specs.StepLaws.{value_bit}
+use Rattle.counting.proofs.StepLaws.{value_bit}
 use Rattle.search.proofs.inner.only.Statement.{statement}
 use Rattle.search.proofs.inner.only.Tie as tie
 

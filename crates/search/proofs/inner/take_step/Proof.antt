@@ -5,7 +5,7 @@ use Prim.Native.Nat.{ℕ, ◌-◌}
 use native.Mathlib.Omega.{arith}
 use lib.ListN.{length}
 use Rattle.settling.specs.Boards.{rows_of}
-use Rattle.settling.specs.Settles.{settle_length}
+use Rattle.settling.proofs.Settles.{settle_length}
 use Rattle.choose.specs.Advice.{told}
 use Rattle.searching.specs.Searching.{lowests, cut_to, removed}
 use Rattle.search.specs.Stack.{level, saved}

@@ -9,7 +9,7 @@ use Rattle.board.specs.Board.{row_at}
 use Rattle.settling.specs.Settling.{visit, pass}
 use Rattle.settling.specs.Boards.{row_of, rows_to}
 use Rattle.settling.specs.Visits.{visit_length}
-use Rattle.settling.specs.BoardLaws.{pass_none, pass_next}
+use Rattle.settling.proofs.BoardLaws.{pass_none, pass_next}
 use Rattle.settle.proofs.inner.pass_rows.Statement.{statement}
 use Rattle.settle.proofs.inner.pass_rows.Tie as tie
 

@@ -8,7 +8,7 @@ use lib.Seq.{length-take-le}
 use Rattle.listing.specs.Places.{onto_part}
 use Rattle.settling.specs.Settling.{settle}
 use Rattle.settling.specs.Boards.{rows_of}
-use Rattle.settling.specs.Settles.{settle_length}
+use Rattle.settling.proofs.Settles.{settle_length}
 use Rattle.settle.proofs.inner.settle.Statement.{statement}
 use Rattle.settle.proofs.inner.settle.Tie as tie
 

@@ -10,7 +10,7 @@ use Rattle.settling.specs.Settling.{Row, pass, Settled, settle}
 use Rattle.settling.specs.Boards.{rows_of}
 use Rattle.settling.specs.Families.{size_most}
 use Rattle.settling.specs.Passes.{pass_length}
-use Rattle.settling.specs.Settles.{settle_last, settle_more, settle_struck}
+use Rattle.settling.proofs.Settles.{settle_last, settle_more, settle_struck}
 use Rattle.settle.specs.declared.Tally.{Tally}
 use Rattle.settle.specs.Settle.{tally_of}
 use Rattle.settle.proofs.inner.settle_rows.Statement.{statement}

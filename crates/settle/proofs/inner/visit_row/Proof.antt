@@ -6,7 +6,7 @@ use borrow.Author.Rules.{rules}
 use lib.ListN.{length, take, replicate}
 use lib.Seq.{length-take-le}
 use Rattle.sizes.specs.Sizes.{row_cells}
-use Rattle.settling.specs.BoardLaws.{row_fronts, sound_fits}
+use Rattle.settling.proofs.BoardLaws.{row_fronts, sound_fits}
 use Rattle.settle.proofs.inner.visit_row.Statement.{statement}
 use Rattle.settle.proofs.inner.visit_row.Tie as tie
 

@@ -6,7 +6,7 @@ use Rattle.settling.specs.Settling.{Row, settle}
 use Rattle.choosing.specs.Choosing.{Choice, dead, settled, advise, to_lowest, choose}
 use Rattle.searching.specs.Searching.{lowests, cut_to, removed, Found, nothing, one, followed, more, or_else, search_in, searched, solved, none, spent, ends, choices_left}
 use Rattle.searching.specs.CountedDown.{End, end_with, on_none, if_one_remains, count_down_in, count_down}
-use Rattle.searching.specs.Searches.{followed_more, ends_enough, ends_short, enough_or_few, ends_more, left_more, ends_broke, left_broke}
+use Rattle.searching.proofs.Searches.{followed_more, ends_enough, ends_short, enough_or_few, ends_more, left_more, ends_broke, left_broke}
 
 abbrev end_of : ℕ → Found → End
 end_of n o = end_with (ends n o) (choices_left n o)

@@ -9,9 +9,9 @@ use Rattle.sizes.specs.Sizes.{values, row_cells}
 use Rattle.listing.specs.Listing.{keep, below}
 use Rattle.listing.specs.Members.{in_below, below_small, flat_in, in_flat, map_only, at_in}
 use Rattle.counting.specs.Counting.{lists, listed}
-use Rattle.counting.specs.Domains.{listed_in, in_listed}
-use Rattle.counting.specs.Counts.{count_total}
-use Rattle.counting.specs.Tables.{total_le}
+use Rattle.counting.proofs.Domains.{listed_in, in_listed}
+use Rattle.counting.proofs.Counts.{count_total}
+use Rattle.counting.proofs.Tables.{total_le}
 use Rattle.settling.specs.Settling.{Row, ◌∈◌, Accepted, gather, row_count, Consistent}
 use Rattle.settling.specs.Cells.{gather_length}
 use Rattle.choosing.specs.Choosing.{Candidate, no_row, row_at, domain_at, choices, candidate, of_place, of_row, candidates}

@@ -12,7 +12,7 @@ use Rattle.choosing.specs.Choosing.{Choice, dead, settled, advise, to_lowest, ch
 use Rattle.searching.specs.Searching.{lowests, cut_to, removed, Found, nothing, one, followed, more, or_else, search_in, searched, spent, ending, ends, choices_left}
 use Rattle.searching.specs.Promised.{Playable}
 use Rattle.searching.specs.Levels.{search_all}
-use Rattle.searching.specs.Looks.{Look, empty, filled, branch, seen, look, branch_branches}
+use Rattle.searching.proofs.Looks.{Look, empty, filled, branch, seen, look, branch_branches}
 
 -- ---- findings joined
 

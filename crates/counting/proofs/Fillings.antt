@@ -9,8 +9,8 @@ use Rattle.sizes.specs.Sizes.{values}
 use Rattle.listing.specs.Listing.{how_many}
 use Rattle.counting.specs.Counting.{lists, listed, fillings, weigh, good, total, count, Filling, GoodFilling, NoNewValue}
 use Rattle.listing.specs.Sums.{never, and_left, and_right, when_both, when_some, when_grows, sum_cong, sum_when, how_many_sum}
-use Rattle.counting.specs.Domains.{◌⇒◌, pick_listed, listed_some, listed_one}
-use Rattle.counting.specs.Over.{over_fillings, over_nil, over_cons, over_grows, filling_at}
+use Rattle.counting.proofs.Domains.{◌⇒◌, pick_listed, listed_some, listed_one}
+use Rattle.counting.proofs.Over.{over_fillings, over_nil, over_cons, over_grows, filling_at}
 
 -- ---- how many of a row's fillings pass a test
 

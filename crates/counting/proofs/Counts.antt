@@ -13,9 +13,9 @@ use Rattle.sizes.specs.Sizes.{values, sums}
 use Rattle.listing.specs.Listing.{sum_over, below}
 use Rattle.counting.specs.Counting.{lists, listed, fillings, weigh, within, good, total, count, forward, backward}
 use Rattle.listing.specs.Sums.{when_both, when_swap, when_times, sum_cong, sum_when, sum_times, sum_swap, sum_part, pick, pick_none, how_many_sum}
-use Rattle.counting.specs.Domains.{pick_listed}
-use Rattle.counting.specs.Over.{over_fillings, over_cons, over_append, over_cong, filling_length, filling_at}
-use Rattle.counting.specs.Tables.{forward_sum, backward_sum, backward_high, total_le}
+use Rattle.counting.proofs.Domains.{pick_listed}
+use Rattle.counting.proofs.Over.{over_fillings, over_cons, over_append, over_cong, filling_length, filling_at}
+use Rattle.counting.proofs.Tables.{forward_sum, backward_sum, backward_high, total_le}
 
 eqb_swap : (a b : ℕ) → eqb a b ≡ eqb b a
 eqb_swap a b = go (eqb b a) refl

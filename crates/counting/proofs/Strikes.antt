@@ -12,8 +12,8 @@ use Rattle.listing.specs.Listing.{sum_over, below}
 use Rattle.listing.specs.Sums.{never, and_left, and_right, sum_plus, sum_cong_below}
 use Rattle.listing.specs.Places.{place_length, place_at, place_only, sum_places}
 use Rattle.counting.specs.Counting.{lists, listed, domain_of, size, count, kept, gone, strike, struck, NoNewValue}
-use Rattle.counting.specs.Domains.{lists_only, domain_lt, ones_apart}
-use Rattle.counting.specs.Fillings.{count_listed}
+use Rattle.counting.proofs.Domains.{lists_only, domain_lt, ones_apart}
+use Rattle.counting.proofs.Fillings.{count_listed}
 
 module _ (ws ds : List ℕ) (low high : ℕ) where
   pub strike_length : length (strike ws ds low high) ≡ length ds

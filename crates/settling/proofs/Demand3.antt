@@ -7,17 +7,17 @@ use mathlib.Core.List.{List, Permᴰ}
 use Rattle.sizes.specs.Sizes.{values}
 use Rattle.listing.specs.Orders.{order_member}
 use Rattle.counting.specs.Counting.{lists, size, NoNewValue}
-use Rattle.counting.specs.Domains.{empty_only}
-use Rattle.counting.specs.Counts.{count_total}
-use Rattle.counting.specs.Fillings.{count→good, total_grows}
+use Rattle.counting.proofs.Domains.{empty_only}
+use Rattle.counting.proofs.Counts.{count_total}
+use Rattle.counting.proofs.Fillings.{count→good, total_grows}
 use Rattle.settling.specs.Settling.{Row, ◌∈◌, Loose, Domains, Accepted, gather, row_total, row_count, RowFilling, visit, UntilIdle, settle, Consistent, Largest, BoardFilling, Stricter}
 use Rattle.settling.specs.Families.{within_self, within_trans, within_both, size_grows}
 use Rattle.settling.specs.Cells.{gather_length, gather_within}
 use Rattle.settling.specs.Visits.{visit→count, visit_domains}
 use Rattle.settling.specs.Passes.{AllOnce}
-use Rattle.settling.specs.Settles.{settled_by, settle_until, settle_out, settle_largest, settle_domains, settle_falls}
+use Rattle.settling.proofs.Settles.{settled_by, settle_until, settle_out, settle_largest, settle_domains, settle_falls}
 use Rattle.settling.specs.Fillings.{board_filling_within, cut, cut_within, cut_consistent, cut_filling}
-use Rattle.settling.specs.Tighter.{tighter_supported}
+use Rattle.settling.proofs.Tighter.{tighter_supported}
 
 -- a row with total 0 has no count above zero
 no_count : (r : Row) (d : List ℕ) → row_total r d ≡ 0 → (p v : ℕ) → p < length r.cells → v < values → 1 ≤ row_count r d p v → ⊥

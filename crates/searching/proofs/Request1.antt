@@ -8,8 +8,8 @@ use Rattle.settling.specs.Settling.{Row, Loose, BoardFilling}
 use Rattle.settling.specs.Fillings.{board_filling_within}
 use Rattle.searching.specs.Searching.{lowest, Found, nothing, one, followed, more, or_else, searched, needed, Ending, solved, none, spent, ending, ends, choices_left}
 use Rattle.searching.specs.Promised.{ShowsFilling, Playable}
-use Rattle.searching.specs.Looks.{look, branch, empty_none, filled_shows, filled_loose, branch_branches}
-use Rattle.searching.specs.Searches.{ends_enough, ends_short, enough_or_few, spent_short, search_rule}
+use Rattle.searching.proofs.Looks.{look, branch, empty_none, filled_shows, filled_loose, branch_branches}
+use Rattle.searching.proofs.Searches.{ends_enough, ends_short, enough_or_few, spent_short, search_rule}
 
 -- what an ending says of the fillings of a board
 abbrev Says : List Row → List ℕ → Ending → Type 0

@@ -8,8 +8,8 @@ use Rattle.sizes.specs.Sizes.{values}
 use Rattle.listing.specs.Listing.{sum_over}
 use Rattle.listing.specs.Orders.{order_member, order_sum}
 use Rattle.counting.specs.Counting.{lists, weigh}
-use Rattle.counting.specs.Over.{filling_length, filling_at, filling_by}
-use Rattle.counting.specs.Fillings.{count→good, good→count, good_sum, sum_good}
+use Rattle.counting.proofs.Over.{filling_length, filling_at, filling_by}
+use Rattle.counting.proofs.Fillings.{count→good, good→count, good_sum, sum_good}
 use Rattle.settling.specs.Settling.{Row, Names, Fits, gather, scatter, RowFilling, Supported, pairs, Tighter}
 use Rattle.settling.specs.Cells.{gather_length, gather_at, scatter_gather}
 

@@ -10,15 +10,15 @@ use Rattle.sizes.specs.Sizes.{values, row_cells}
 use Rattle.listing.specs.Sums.{never}
 use Rattle.listing.specs.Members.{at_in, in_at}
 use Rattle.counting.specs.Counting.{lists, listed}
-use Rattle.counting.specs.Domains.{listed_in, lists_one}
+use Rattle.counting.proofs.Domains.{listed_in, lists_one}
 use Rattle.settling.specs.Settling.{Row, ◌∈◌, Accepted, settle, Consistent}
-use Rattle.settling.specs.Demand3.{largest_family, left_accepted}
+use Rattle.settling.proofs.Demand3.{largest_family, left_accepted}
 use Rattle.fraction.specs.Share.{share_of}
 use Rattle.choosing.specs.Choosing.{Candidate, Ties, no_row, row_at, domain_at, candidate, candidates, Choice, dead, settled, advise, some_empty, choose}
 use Rattle.choosing.specs.Promised.{SomeEmpty, NoneEmpty, Single, Open, Best, Promised}
 use Rattle.choosing.specs.Going.{Leader, nobody, leads, through, outcome}
-use Rattle.choosing.specs.GoingLaws.{Finds, finds, best_alone, through_advises}
-use Rattle.choosing.specs.CandidateLaws.{candidate_there, apart, is_open, live, numbers_fit}
+use Rattle.choosing.proofs.GoingLaws.{Finds, finds, best_alone, through_advises}
+use Rattle.choosing.proofs.CandidateLaws.{candidate_there, apart, is_open, live, numbers_fit}
 
 -- ---- empty domains
 

@@ -10,7 +10,7 @@ use Rattle.board.specs.Board.{row_at, SameRow, SameBoard}
 use Rattle.board.specs.Sound.{SoundLine, SoundBoard}
 use Rattle.settling.specs.Settling.{Row, ◌∈◌, Fits, Domains, Accepted, visit, pass, settle, Consistent}
 use Rattle.settling.specs.Passes.{pass_more}
-use Rattle.settling.specs.Settles.{settle_largest}
+use Rattle.settling.proofs.Settles.{settle_largest}
 use Rattle.settling.specs.Boards.{front, row_with, row_of, rows_to, rows_of}
 
 front_length : (n : ℕ) (xs : List ℕ) → length (front n xs) ≡ n

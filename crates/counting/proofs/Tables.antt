@@ -11,7 +11,7 @@ use Rattle.sizes.specs.Sizes.{values}
 use Rattle.listing.specs.Listing.{sum_over}
 use Rattle.counting.specs.Counting.{listed, fillings, weigh, within, total, forward, backward}
 use Rattle.listing.specs.Sums.{when_both, sum_cong, sum_zero, sum_when, how_many_sum}
-use Rattle.counting.specs.Over.{over_fillings, over_nil, over_cons, over_snoc, over_cong, filling_length, many_le}
+use Rattle.counting.proofs.Over.{over_fillings, over_nil, over_cons, over_snoc, over_cong, filling_length, many_le}
 
 -- a weight more at the end
 weigh_snoc : (ws : List ℕ) (w : ℕ) (f : List ℕ) (v : ℕ) → length f ≡ length ws → weigh (ws ++ (w ∷ [])) (f ++ (v ∷ [])) ≡ weigh ws f + w * v

@@ -9,8 +9,8 @@ use Rattle.listing.specs.Listing.{below}
 use Rattle.listing.specs.Sums.{sum_nil, sum_turn, sum_le, length_only, length_below}
 use Rattle.listing.specs.Writing.{written_none, written_more}
 use Rattle.counting.specs.Counting.{listed, domain_of, count, kept, gone, strike, struck}
-use Rattle.counting.specs.Domains.{listed_le}
-use Rattle.counting.specs.Strikes.{strike_only}
+use Rattle.counting.proofs.Domains.{listed_le}
+use Rattle.counting.proofs.Strikes.{strike_only}
 use Rattle.counting.specs.Steps.{StruckTo}
 
 -- the bit of a value, as code shifts it

@@ -8,7 +8,7 @@ use Rattle.sizes.specs.Sizes.{values}
 use Rattle.listing.specs.Listing.{how_many, sum_over}
 use Rattle.counting.specs.Counting.{lists, listed, fillings, Filling, NoNewValue}
 use Rattle.listing.specs.Sums.{sum_cong, sum_swap, sum_le, sum_map, sum_flat, how_many_sum}
-use Rattle.counting.specs.Domains.{listed_le, listed_cong, listed_grows}
+use Rattle.counting.proofs.Domains.{listed_le, listed_cong, listed_grows}
 
 -- the sum of g f over the fillings f of cells with these domains
 abbrev pub over_fillings : List ℕ → (List ℕ → ℕ) → ℕ

@@ -12,17 +12,17 @@ use Rattle.listing.specs.Sums.{when_grows, never}
 use Rattle.listing.specs.Members.{at_in}
 use Rattle.listing.specs.Places.{map_at}
 use Rattle.counting.specs.Counting.{lists, listed, size, good, NoNewValue}
-use Rattle.counting.specs.Domains.{ones_most, empty_lists}
-use Rattle.counting.specs.Cuts.{power_le, cut_within, rest_within, cut_has, rest_has, cut_small, rest_small, cut_ones, rest_ones, set_within, size_set}
-use Rattle.counting.specs.Over.{filling_length, filling_at, filling_by}
+use Rattle.counting.proofs.Domains.{ones_most, empty_lists}
+use Rattle.counting.proofs.Cuts.{power_le, cut_within, rest_within, cut_has, rest_has, cut_small, rest_small, cut_ones, rest_ones, set_within, size_set}
+use Rattle.counting.proofs.Over.{filling_length, filling_at, filling_by}
 use Rattle.settling.specs.Settling.{Row, ◌∈◌, Loose, Accepted, gather, settle, BoardFilling}
 use Rattle.settling.specs.Families.{within_trans, set_domains, size_grows}
 use Rattle.settling.specs.Fillings.{filling_set}
 use Rattle.settling.specs.Cells.{gather_length, gather_at, gather_only}
-use Rattle.settling.specs.Demand3.{largest_family, left_accepted, value_in_filling, no_filling_lost, no_filling_new, loose_cell}
+use Rattle.settling.proofs.Demand3.{largest_family, left_accepted, value_in_filling, no_filling_lost, no_filling_new, loose_cell}
 use Rattle.choosing.specs.Choosing.{Candidate, Choice, dead, settled, advise, to_lowest, choose, no_row, row_at}
 use Rattle.choosing.specs.Promised.{SomeEmpty, NoneEmpty, Single, Open, Promised}
-use Rattle.choosing.specs.ChoiceLaws.{settled_promises}
+use Rattle.choosing.proofs.ChoiceLaws.{settled_promises}
 use Rattle.searching.specs.Searching.{lowest, lowests, cut_to, removed}
 use Rattle.searching.specs.Promised.{ShowsFilling, Playable}
 use Rattle.searching.specs.Levels.{open_cells}

@@ -12,7 +12,7 @@ use Rattle.sizes.specs.Sizes.{values}
 use Rattle.listing.specs.Listing.{only, how_many, sum_over}
 use Rattle.listing.specs.Sums.{and_left, when_both, when_swap, sum_only, sum_cong, sum_cong_below, sum_plus, pick, how_many_sum}
 use Rattle.counting.specs.Counting.{lists, listed, domain_of, size, NoNewValue}
-use Rattle.counting.specs.Domains.{◌⇒◌, pick_listed, listed_ones, same_domain, domain_lt, lists_only, ones_apart}
+use Rattle.counting.proofs.Domains.{◌⇒◌, pick_listed, listed_ones, same_domain, domain_lt, lists_only, ones_apart}
 
 -- ---- one domain and one of its values
 

@@ -1,0 +1,8 @@
+pub mod Counts
+pub mod Cuts
+pub mod Domains
+pub mod Fillings
+pub mod Over
+pub mod StepLaws
+pub mod Strikes
+pub mod Tables
