@@ -1,0 +1,11 @@
+-- `inner::strike` meets its contract: after i turns the first i domains are struck, each by tables that hold for the domains at entry. Assumes nothing.
+use Prim.Native.Nat.{◌-◌, ◌≤◌}
+use lib.ListN.{length}
+use Rattle.counting.specs.Steps.{StruckTo}
+use Rattle.row.proofs.inner.strike.Given as goal
+
+abbrev pub invariant-loop-i : goal.invariant-loop-i
+invariant-loop-i l = (l.i ≤ length l.initial.domains) × StruckTo l.weights l.initial.domains l.low l.high l.domains l.struck l.i
+
+abbrev pub decreases-loop-i : goal.decreases-loop-i
+decreases-loop-i l = length l.initial.domains - l.i
