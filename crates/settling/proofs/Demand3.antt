@@ -128,7 +128,7 @@ module _ (rs : List Row) (d : List ℕ) (board : Accepted rs d) where
       let m = largest_family in
       let whole : (settle rs d).left ≡ d = within_both _ d left_domains board.domains m.within (m.largest d (within_self d) s) in
       let none : (settle rs d).struck ≡ 0 = omega (arith, struck_gone, ap size whole) in
-      settled_by (settle rs d) d 1 0 whole (omega (arith, passes_most, passes_counted.counted)) none
+      settled_by (settle rs d) d 1 0 whole (omega (arith, settle_falls rs once d, struck_gone, passes_counted.counted)) none
 
 -- Settled domains are.
 pub settled_stays : (rs : List Row) (d : List ℕ) → Accepted rs d → settle rs (settle rs d).left ≡ record { left = (settle rs d).left; passes = 1; struck = 0 }
