@@ -190,7 +190,7 @@ module _ {board : Board} {h : ℕ} {purse : Purse} {d stack forward backward : L
             subst (λ (y : List ℕ). Playable rows y) (sym p) fewer.first_playable,
             refl,
             omega (arith, ap open_cells p, fewer.first_open, way.roomy.2),
-            (fewer.second_playable, fewer.second_within.cells, omega (arith, fewer.second_open, way.roomy.2), way.roomy.3),
+            (fewer.second_playable, fewer.second_within.cells, omega (arith, fewer.second_open, way.roomy.2), subst (λ (n : ℕ). Roomy rows n (levels (length d) h stack)) (sym f) way.roomy.3),
           );
           nearer = omega arith;
           purse_same = omega arith;
@@ -221,7 +221,7 @@ module _ {board : Board} {purse : Purse} {d stack forward backward : List ℕ} w
       record {
         same = record { same_end = ap₂ ends l (whole ∙ sym found); same_left = ap₂ choices_left l (whole ∙ sym found) };
         cells = f;
-        roomy = rw (k, f) (subst (λ (y : List ℕ). Playable (rows_of board) y) (sym q) r.0, refl, omega (arith, ap open_cells q, r.2), r.3);
+        roomy = rw (k, f) (subst (λ (y : List ℕ). Playable (rows_of board) y) (sym q) r.0, refl, omega (arith, ap open_cells q, r.2), subst (λ (n : ℕ). Roomy (rows_of board) n (levels n h stack)) (sym f) r.3);
         nearer = omega arith;
         purse_same = omega arith;
       }

@@ -1,0 +1,35 @@
+-- `inner::finish` meets its contract: the fronts of the two rooms are lent and come back new. Assumes nothing.
+use mathlib.Core.Path.{◌≡◌, sym}
+use native.Mathlib.Omega.{arith}
+use lib.ListN.{length, take}
+use lib.Seq.{length-take-le}
+use Rattle.sizes.specs.Sizes.{stack_size}
+use Rattle.search.specs.RoomLaws.{finished}
+use Rattle.search.proofs.inner.finish.Goals as goal
+use Rattle.search.proofs.inner.finish.Goals.{Start}
+
+-- the fronts are as long as they are to be
+cells : (c : Start) → length (take c.args.board.cells c.args.room.now) ≡ c.args.board.cells
+cells c = length-take-le c.args.board.cells c.args.room.now (omega (arith, c.requires.0.sizes.cells_most, c.requires.1))
+
+levels : (c : Start) → length (take stack_size c.args.stack.now) ≡ stack_size
+levels c = length-take-le stack_size c.args.stack.now c.requires.2
+
+pub slice_bounds-run-end-2 : goal.slice_bounds-run-end-2
+slice_bounds-run-end-2 c = sym (cells (goal.at.slice_bounds-run-end-2 c).Start)
+
+pub slice_bounds-run-end-4 : goal.slice_bounds-run-end-4
+slice_bounds-run-end-4 c = sym (levels (goal.at.slice_bounds-run-end-4 c).Start)
+
+pub run-requires : goal.run-requires
+run-requires c =
+    (c.requires.0, cells (goal.at.run-requires c).Start, levels (goal.at.run-requires c).Start, c.requires.3, c.requires.4)
+
+pub returns : goal.returns
+returns c =
+    let r = c.run in
+    let n : length r.new.domains ≡ c.args.board.cells = omega (arith, cells (goal.at.returns c).Start) in
+    record {
+      finished = finished c.args.board c.args.choices c.args.room.now c.args.stack.now _ _ r.new.domains _ n r.ensures.ran;
+      forward_after = r.ensures.forward_after;
+    }
