@@ -13,13 +13,13 @@ use Rattle.choose.proofs.inner.with_row.Goals as goal
 use Rattle.choose.proofs.inner.with_row.Goals.{Start}
 
 -- the row is no longer than its arrays
-names-fit : (c : Start) → c.args.line.len ≤ length c.args.line.names
-names-fit c =
+names_fit : (c : Start) → c.args.line.len ≤ length c.args.line.names
+names_fit c =
     let h : length c.args.line.names ≡ row_cells = search rules in
     omega (arith, c.requires.0.head.most)
 
-weights-fit : (c : Start) → c.args.line.len ≤ length c.args.line.weights
-weights-fit c =
+weights_fit : (c : Start) → c.args.line.len ≤ length c.args.line.weights
+weights_fit c =
     let h : length c.args.line.weights ≡ row_cells = search rules in
     omega (arith, c.requires.0.head.most)
 
@@ -28,19 +28,19 @@ part_length c = length-take-le {A = ℕ} c.args.line.len (replicate row_cells 0)
 
 -- the fronts of its arrays are the row that its record says
 fronts : (c : Start) → row_with (take c.args.line.len c.args.line.names) (take c.args.line.len c.args.line.weights) c.args.line.low c.args.line.high ≡ row_of c.args.line
-fronts c = row_fronts c.args.line (names-fit c) (weights-fit c)
+fronts c = row_fronts c.args.line (names_fit c) (weights_fit c)
 
 pub slice_bounds-names-end : goal.slice_bounds-names-end
-slice_bounds-names-end c = names-fit (goal.at.slice_bounds-names-end c).Start
+slice_bounds-names-end c = names_fit (goal.at.slice_bounds-names-end c).Start
 
 pub slice_bounds-with_parts-end : goal.slice_bounds-with_parts-end
-slice_bounds-with_parts-end c = sym (length-take-le _ _ (names-fit (goal.at.slice_bounds-with_parts-end c).Start))
+slice_bounds-with_parts-end c = sym (length-take-le _ _ (names_fit (goal.at.slice_bounds-with_parts-end c).Start))
 
 pub slice_bounds-weights-end : goal.slice_bounds-weights-end
-slice_bounds-weights-end c = weights-fit (goal.at.slice_bounds-weights-end c).Start
+slice_bounds-weights-end c = weights_fit (goal.at.slice_bounds-weights-end c).Start
 
 pub slice_bounds-with_parts-end-2 : goal.slice_bounds-with_parts-end-2
-slice_bounds-with_parts-end-2 c = sym (length-take-le _ _ (weights-fit (goal.at.slice_bounds-with_parts-end-2 c).Start))
+slice_bounds-with_parts-end-2 c = sym (length-take-le _ _ (weights_fit (goal.at.slice_bounds-with_parts-end-2 c).Start))
 
 pub slice_bounds-with_parts-end-3 : goal.slice_bounds-with_parts-end-3
 slice_bounds-with_parts-end-3 c = sym (part_length (goal.at.slice_bounds-with_parts-end-3 c).Start)
@@ -49,7 +49,7 @@ pub with_parts-requires : goal.with_parts-requires
 with_parts-requires c =
     let line = c.args.line in
     let head = c.requires.0.head in
-    let w = length-take-le line.len line.weights (weights-fit (goal.at.with_parts-requires c).Start) in
+    let w = length-take-le line.len line.weights (weights_fit (goal.at.with_parts-requires c).Start) in
     let p = part_length (goal.at.with_parts-requires c).Start in (
       rw (fronts (goal.at.with_parts-requires c).Start) (sound_fits _ line c.requires.0),
       record { some = omega arith; most = omega arith; same = w ∙ sym p; ordered = head.ordered; limit = head.limit },
