@@ -1,67 +1,89 @@
-// The lines that programs print, on standard output.
+// The lines that programs print, on a writer.
 #![tactic(auto)]
 
-use libc::STDOUT_FILENO;
-use sizes::{BOARD_CELLS, VALUES};
+ghost use Rattle.std.specs.Prelude.{OnOk, ◌≤◌, ◌<◌, [], cond, ltb};
+ghost use Rattle.std.specs.Io.KnownBytes.{Appends};
+ghost use Rattle.lines.specs.Lines.{named_text, refused_text, ended_text, value_text, values_text, cell_text, cells_text};
+ghost use Rattle.sizes.specs.Sizes.{board_cells, values};
 
-pub fn text(words: &[u8]) {
-    io::write_all(STDOUT_FILENO, words);
+use sizes::{BOARD_CELLS, VALUES};
+use std::io;
+use std::io::Write;
+
+pub fn text<W: Write>(out: &mut W, words: &[u8]) -> io::Result<()>
+    ensures { OnOk result (Appends (W.contents out.old) (W.contents out.new) words.now) }
+{
+    out.write_all(words)
 }
 
 // A name and its number.
-pub fn named(name: &[u8], number: usize) {
-    text(name);
-    io::print_decimal(STDOUT_FILENO, number as u64);
+pub fn named<W: Write>(out: &mut W, name: &[u8], number: usize) -> io::Result<()>
+    ensures { OnOk result (Appends (W.contents out.old) (W.contents out.new) (named_text name.now number)) }
+{
+    text(out, name)?;
+    write!(out, "{number}")
 }
 
 // The line of a refusal.
-pub fn refused(number: u8) {
-    named(b"REFUSED ", number as usize);
-    text(b"\n");
+pub fn refused<W: Write>(out: &mut W, number: u8) -> io::Result<()>
+    ensures { OnOk result (Appends (W.contents out.old) (W.contents out.new) (refused_text number)) }
+{
+    named(out, b"REFUSED ", number as usize)?;
+    text(out, b"\n")
 }
 
 // How a search ended, and how many of the choices given it followed. No more are left than were given (`left-most`), so nothing wraps.
-pub fn ended(word: &[u8], given: u64, left: u64) {
-    text(word);
-    named(
-        b" FOLLOWED ",
-        std::num::wrapping_sub_u64(given, left) as usize,
-    );
-    named(b" LEFT ", left as usize);
+pub fn ended<W: Write>(out: &mut W, word: &[u8], given: u64, left: u64) -> io::Result<()>
+    ensures { left ≤ given → OnOk result (Appends (W.contents out.old) (W.contents out.new) (ended_text word.now given left)) }
+{
+    text(out, word)?;
+    named(out, b" FOLLOWED ", given.wrapping_sub(left) as usize)?;
+    named(out, b" LEFT ", left as usize)
 }
 
 // The values left in each cell of a board, a line for each of so many cells.
-pub fn cells(cells: usize, room: [u32; BOARD_CELLS]) {
+pub fn cells<W: Write>(out: &mut W, cells: usize, room: [u32; BOARD_CELLS]) -> io::Result<()>
+    ensures { OnOk result (Appends (W.contents out.old) (W.contents out.new) (cells_text cells room board_cells)) }
+{
     for cell in 0..BOARD_CELLS {
-        cell_line(cells, cell, room[cell]);
+        cell_line(out, cells, cell, room[cell])?;
     }
+    Ok(())
 }
 
-fn cell_line(cells: usize, cell: usize, domain: u32) {
+fn cell_line<W: Write>(out: &mut W, cells: usize, cell: usize, domain: u32) -> io::Result<()>
+    ensures { OnOk result (Appends (W.contents out.old) (W.contents out.new) (cond (ltb cell cells) (cell_text cell domain) [])) }
+{
     if cells <= cell {
-        return;
+        return Ok(());
     }
-    named(b"CELL ", cell);
-    text(b" VALUES");
-    values(domain);
-    text(b"\n");
+    named(out, b"CELL ", cell)?;
+    text(out, b" VALUES")?;
+    values(out, domain)?;
+    text(out, b"\n")
 }
 
 // The values that a domain lists.
-pub fn values(domain: u32) {
+pub fn values<W: Write>(out: &mut W, domain: u32) -> io::Result<()>
+    ensures { OnOk result (Appends (W.contents out.old) (W.contents out.new) (values_text domain)) }
+{
     if domain == 0 {
-        text(b" NONE");
+        text(out, b" NONE")?;
     }
     for value in 0..VALUES {
-        if_listed(domain, value);
+        if_listed(out, domain, value)?;
     }
+    Ok(())
 }
 
-fn if_listed(domain: u32, value: usize) {
+fn if_listed<W: Write>(out: &mut W, domain: u32, value: usize) -> io::Result<()>
+    ensures { value < values → OnOk result (Appends (W.contents out.old) (W.contents out.new) (value_text domain value)) }
+{
     if VALUES <= value {
-        return;
+        return Ok(());
     }
     if (domain >> value) % 2 == 1 {
-        named(b" ", value);
+        named(out, b" ", value)?;
     }
+    Ok(())
 }
