@@ -7,9 +7,11 @@ ghost use Rattle.sizes.specs.Sizes.{row_cells, highest};
 ghost use Rattle.sizes.specs.Sound.{SoundRow};
 
 use digits::number_of;
-use libc::STDOUT_FILENO;
+use inputs::{arg, arg_count};
 use row::Answer;
 use sizes::{HIGHEST, ROW_CELLS, SUMS, TABLE};
+use std::io;
+use std::io::Write;
 
 // Kinds of row: all values, holes, weight 0, one sum, every sum, empty domains.
 const FULL: u64 = 0;
@@ -40,30 +42,30 @@ struct Tally {
     struck: u64,
 }
 
-fn main() {
-    if os::arg_count() < 3 {
-        report(10000, 1);
-        return;
+fn main(rt: HostRuntime) -> io::Result<()> {
+    let mut out = io::writer(&rt);
+    if arg_count(&rt) < 3 {
+        return report(&mut out, 10000, 1);
     }
     let mut word = [0u8; 20];
-    let n = os::arg(1, &mut word);
+    let n = arg(&rt, 1, &mut word);
     let rows = number_of(&word[..n]);
-    let n = os::arg(2, &mut word);
-    report(rows, number_of(&word[..n]));
+    let n = arg(&rt, 2, &mut word);
+    report(&mut out, rows, number_of(&word[..n]))
 }
 
-fn report(rows: u64, seed: u64) {
+fn report<W: Write>(out: &mut W, rows: u64, seed: u64) -> io::Result<()> {
     let t = over_rows(rows, seed);
-    print(b"ROWS ", rows);
-    print(b" SEED ", seed);
-    print(b" AGREED ", t.agreed);
-    print(b" STRUCK ", t.struck);
-    io::write_all(STDOUT_FILENO, b"\n");
+    print(out, b"ROWS ", rows)?;
+    print(out, b" SEED ", seed)?;
+    print(out, b" AGREED ", t.agreed)?;
+    print(out, b" STRUCK ", t.struck)?;
+    out.write_all(b"\n")
 }
 
-fn print(name: &[u8], n: u64) {
-    io::write_all(STDOUT_FILENO, name);
-    io::print_decimal(STDOUT_FILENO, n);
+fn print<W: Write>(out: &mut W, name: &[u8], n: u64) -> io::Result<()> {
+    out.write_all(name)?;
+    write!(out, "{n}")
 }
 
 fn over_rows(rows: u64, seed: u64) -> Tally {
@@ -74,12 +76,9 @@ fn over_rows(rows: u64, seed: u64) -> Tally {
         struck: 0,
     };
     let mut x = seed;
-    let mut left = rows;
-    while 0 < left {
-        x = std::num::wrapping_add_u64(x, STRIDE);
-        let more = tally.and(one_row(x, &mut forward, &mut backward));
-        tally = more;
-        left -= 1;
+    for _ in 0..rows {
+        x = x.wrapping_add(STRIDE);
+        tally = tally.and(one_row(x, &mut forward, &mut backward));
     }
     tally
 }
@@ -87,8 +86,8 @@ fn over_rows(rows: u64, seed: u64) -> Tally {
 impl Tally {
     fn and(self, row: Tally) -> Tally {
         Tally {
-            agreed: std::num::wrapping_add_u64(self.agreed, row.agreed),
-            struck: std::num::wrapping_add_u64(self.struck, row.struck),
+            agreed: self.agreed.wrapping_add(row.agreed),
+            struck: self.struck.wrapping_add(row.struck),
         }
     }
 }
@@ -157,12 +156,10 @@ fn make(weights: &mut [u8], domains: &mut [u32], kind: u64, x: u64)
     requires { length weights.old ≡ length domains.old }
 {
     let mut y = x;
-    let mut i: usize = 0;
-    while i < domains.len() {
+    for i in 0..domains.len() {
         y = stirred(y);
         weights[i] = weight(kind, y);
         domains[i] = domain(kind, y / 1024);
-        i += 1;
     }
 }
 
@@ -232,12 +229,10 @@ fn number(answer: Answer) -> u64 {
 fn same(a: &[u32], b: &[u32]) -> bool
     requires { length a.now ≡ length b.now }
 {
-    let mut i: usize = 0;
-    while i < a.len() {
+    for i in 0..a.len() {
         if a[i] != b[i] {
             return false;
         }
-        i += 1;
     }
     true
 }

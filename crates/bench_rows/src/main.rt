@@ -3,9 +3,11 @@
 #![tactic(auto)]
 
 use digits::number_of;
-use libc::STDOUT_FILENO;
+use inputs::{arg, arg_count};
 use row::Answer;
 use sizes::{HIGHEST, ROW_CELLS, TABLE};
+use std::io;
+use std::io::Write;
 
 // Methods: both tables and the total; striking by counting; striking by reachable sums.
 const METHODS: usize = 3;
@@ -17,92 +19,85 @@ const FULL: u32 = 4294967295;
 
 const EIGHT: u32 = 255;
 
-fn main() {
-    if os::arg_count() < 4 {
-        every_method();
-        return;
+fn main(rt: HostRuntime) -> io::Result<()> {
+    let mut out = io::writer(&rt);
+    if arg_count(&rt) < 4 {
+        return every_method(&mut out);
     }
     let mut word = [0u8; 16];
-    let n = os::arg(1, &mut word);
+    let n = arg(&rt, 1, &mut word);
     let method = method_named(&word[..n]);
-    let n = os::arg(2, &mut word);
+    let n = arg(&rt, 2, &mut word);
     let kind = kind_named(&word[..n]);
-    let n = os::arg(3, &mut word);
-    print_line(method, kind, number_of(&word[..n]));
+    let n = arg(&rt, 3, &mut word);
+    print_line(&mut out, method, kind, number_of(&word[..n]))
 }
 
-fn every_method() {
-    let mut method: usize = 0;
-    while method < METHODS {
-        every_kind(method);
-        method += 1;
+fn every_method<W: Write>(out: &mut W) -> io::Result<()> {
+    for method in 0..METHODS {
+        every_kind(out, method)?;
     }
+    Ok(())
 }
 
-fn every_kind(method: usize) {
-    let mut kind: usize = 0;
-    while kind < KINDS {
-        print_line(method, kind, 1);
-        kind += 1;
+fn every_kind<W: Write>(out: &mut W, method: usize) -> io::Result<()> {
+    for kind in 0..KINDS {
+        print_line(out, method, kind, 1)?;
     }
+    Ok(())
 }
 
-fn print_line(method: usize, kind: usize, times: u64) {
-    print_method(method);
-    print_kind(kind);
-    io::print_decimal(STDOUT_FILENO, over_kind(method, kind, times));
-    io::write_all(STDOUT_FILENO, b"\n");
+fn print_line<W: Write>(out: &mut W, method: usize, kind: usize, times: u64) -> io::Result<()> {
+    print_method(out, method)?;
+    print_kind(out, kind)?;
+    let sum = over_kind(method, kind, times);
+    writeln!(out, "{sum}")
 }
 
 fn method_named(word: &[u8]) -> usize {
-    if check::same(word, b"tables") {
+    if word == b"tables".as_slice() {
         return 0;
     }
-    if check::same(word, b"strike") {
+    if word == b"strike".as_slice() {
         return 1;
     }
     2
 }
 
-fn print_method(method: usize) {
+fn print_method<W: Write>(out: &mut W, method: usize) -> io::Result<()> {
     if method == 0 {
-        io::write_all(STDOUT_FILENO, b"tables ");
-        return;
+        return out.write_all(b"tables ");
     }
     if method == 1 {
-        io::write_all(STDOUT_FILENO, b"strike ");
-        return;
+        return out.write_all(b"strike ");
     }
-    io::write_all(STDOUT_FILENO, b"reach ");
+    out.write_all(b"reach ")
 }
 
 fn kind_named(word: &[u8]) -> usize {
-    if check::same(word, b"full") {
+    if word == b"full".as_slice() {
         return 0;
     }
-    if check::same(word, b"eight") {
+    if word == b"eight".as_slice() {
         return 1;
     }
-    if check::same(word, b"zero") {
+    if word == b"zero".as_slice() {
         return 2;
     }
     3
 }
 
-fn print_kind(kind: usize) {
+fn print_kind<W: Write>(out: &mut W, kind: usize) -> io::Result<()> {
     if kind == 0 {
-        io::write_all(STDOUT_FILENO, b"full ");
-        return;
+        return out.write_all(b"full ");
     }
     if kind == 1 {
-        io::write_all(STDOUT_FILENO, b"eight ");
-        return;
+        return out.write_all(b"eight ");
     }
     if kind == 2 {
-        io::write_all(STDOUT_FILENO, b"zero ");
-        return;
+        return out.write_all(b"zero ");
     }
-    io::write_all(STDOUT_FILENO, b"figure ");
+    out.write_all(b"figure ")
 }
 
 fn over_kind(method: usize, kind: usize, times: u64) -> u64 {
@@ -134,8 +129,7 @@ fn over_row(
     let mut forward = [0u64; TABLE];
     let mut backward = [0u64; TABLE];
     let mut sum: u64 = 0;
-    let mut left = times;
-    while 0 < left {
+    for _ in 0..times {
         let answer = once(
             method,
             weights,
@@ -145,12 +139,11 @@ fn over_row(
             &mut forward,
             &mut backward,
         );
-        sum = std::num::wrapping_add_u64(sum, answer);
-        left -= 1;
+        sum = sum.wrapping_add(answer);
     }
-    sum = std::num::wrapping_add_u64(sum, added(&forward));
-    sum = std::num::wrapping_add_u64(sum, added(&backward));
-    std::num::wrapping_add_u64(sum, added_domains(domains))
+    sum = sum.wrapping_add(added(&forward));
+    sum = sum.wrapping_add(added(&backward));
+    sum.wrapping_add(added_domains(domains))
 }
 
 fn once(
@@ -200,20 +193,16 @@ fn number(answer: Answer) -> u64 {
 
 fn added(table: &[u64]) -> u64 {
     let mut sum: u64 = 0;
-    let mut k: usize = 0;
-    while k < table.len() {
-        sum = std::num::wrapping_add_u64(sum, table[k]);
-        k += 1;
+    for entry in table {
+        sum = sum.wrapping_add(*entry);
     }
     sum
 }
 
 fn added_domains(domains: &[u32]) -> u64 {
     let mut sum: u64 = 0;
-    let mut k: usize = 0;
-    while k < domains.len() {
-        sum = std::num::wrapping_add_u64(sum, wide(domains[k]));
-        k += 1;
+    for domain in domains {
+        sum = sum.wrapping_add(wide(*domain));
     }
     sum
 }

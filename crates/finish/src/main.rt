@@ -3,23 +3,30 @@
 #![tactic(auto)]
 
 use digits::number_of;
-use libc::STDIN_FILENO;
+use inputs::{arg, read_full};
 use lines::{cells, ended, refused, text};
 use search::{Answer, search};
 use sizes::{BOARD_CELLS, FILE, STACK, TABLE};
+use std::io;
+use std::io::{BufWriter, Write};
 
 // A byte more than the longest file: an input that fills it is too long, and refused as such.
 const INPUT: usize = FILE + 1;
 
-fn main() {
-    let mut word = io::buffer();
-    let n = os::arg(1, &mut word);
+// Room for the argument; a longer one is taken for none.
+const WORD: usize = 4096;
+
+fn main(rt: HostRuntime) -> io::Result<()> {
+    let mut word = [0u8; WORD];
+    let n = arg(&rt, 1, &mut word);
     let mut input = [0u8; INPUT];
-    let size = io::read_full(STDIN_FILENO, &mut input);
-    finish(&input[..size], number_of(&word[..n]));
+    let size = read_full(&mut rt.reader(), &mut input)?;
+    let mut out = BufWriter::new(rt.alloc(), io::writer(&rt))?;
+    finish(&mut out, &input[..size], number_of(&word[..n]))?;
+    out.flush()
 }
 
-fn finish(file: &[u8], given: u64) {
+fn finish<W: Write>(out: &mut W, file: &[u8], given: u64) -> io::Result<()> {
     let mut left = given;
     let mut room = [0u32; BOARD_CELLS];
     let mut stack = [0u32; STACK];
@@ -33,16 +40,13 @@ fn finish(file: &[u8], given: u64) {
         &mut forward,
         &mut backward,
     ) {
-        Answer::Solved => ended(b"SOLVED", given, left),
-        Answer::None => ended(b"NONE", given, left),
-        Answer::Spent => ended(b"SPENT", given, left),
-        Answer::Refused(number) => {
-            refused(number);
-            return;
-        }
+        Answer::Solved => ended(out, b"SOLVED", given, left)?,
+        Answer::None => ended(out, b"NONE", given, left)?,
+        Answer::Spent => ended(out, b"SPENT", given, left)?,
+        Answer::Refused(number) => return refused(out, number),
     }
-    text(b"\n");
+    text(out, b"\n")?;
     let reading = reader::read(file);
     let board = reading.board;
-    cells(board.cells, room);
+    cells(out, board.cells, room)
 }

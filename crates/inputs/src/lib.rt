@@ -6,9 +6,9 @@ ghost use Rattle.std.specs.Io.{ReadsAtMost};
 ghost use Rattle.std.specs.Io.KnownBytes.{Consumes, IsAtEnd};
 
 use std::env::FillError;
-use std::io;
 use std::io::Read;
-use std::rt::Env;
+use std::rt::{Env, Files};
+use std::{fs, io, str};
 
 // Reads until the buffer is full or the input ends, and answers how many bytes it put at the start of the buffer.
 pub fn read_full<R: Read>(input: &mut R, buffer: &mut [u8]) -> io::Result<usize>
@@ -44,5 +44,19 @@ pub fn arg<E: Env>(rt: &E, i: usize, buffer: &mut [u8]) -> usize
     match rt.arg(i, buffer) {
         Ok(n) => n,
         Err(_) => 0,
+    }
+}
+
+// Opens the file of that name for reading. Where it can't be opened, a line on standard error says why, and there is none.
+pub fn open_read<R: Files + Eprint>(rt: &R, name: &[u8]) -> io::Result<Option<R::File>> {
+    let Ok(path) = str::from_utf8(name) else {
+        return Err(io::Error::from(io::ErrorKind::InvalidFilename));
+    };
+    match fs::open(rt, path) {
+        Ok(file) => Ok(Some(file)),
+        Err(error) => {
+            eprintln!(rt; "{path}: {error}")?;
+            Ok(None)
+        }
     }
 }

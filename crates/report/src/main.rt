@@ -4,65 +4,81 @@
 use advice::{Answer, advise};
 use board::{Board, Row};
 use choose::Advice;
-use libc::STDIN_FILENO;
+use inputs::read_full;
 use lines::{cells, named, refused, text};
 use reader::read;
 use settle::Tally;
 use sizes::{BOARD_CELLS, BOARD_ROWS, FILE, ROW_CELLS, TABLE};
+use std::io;
+use std::io::{BufWriter, Write};
 
 // A byte more than the longest file: an input that fills it is too long, and refused as such.
 const INPUT: usize = FILE + 1;
 
-fn main() {
+fn main(rt: HostRuntime) -> io::Result<()> {
     let mut input = [0u8; INPUT];
-    let n = io::read_full(STDIN_FILENO, &mut input);
-    report(&input[..n]);
+    let n = read_full(&mut rt.reader(), &mut input)?;
+    let mut out = BufWriter::new(rt.alloc(), io::writer(&rt))?;
+    report(&mut out, &input[..n])?;
+    out.flush()
 }
 
-fn report(file: &[u8]) {
+fn report<W: Write>(out: &mut W, file: &[u8]) -> io::Result<()> {
     let mut room = [0u32; BOARD_CELLS];
     let mut forward = [0u64; TABLE];
     let mut backward = [0u64; TABLE];
     match advise(file, &mut room, &mut forward, &mut backward) {
-        Answer::Refused(number) => refused(number),
+        Answer::Refused(number) => refused(out, number),
         Answer::Advised { tally, advice } => {
             let reading = read(file);
             let board = reading.board;
-            sizes_and_tally(board.cells, board.rows, tally);
-            cells(board.cells, room);
-            totals(board, room);
-            last_line(advice);
+            sizes_and_tally(out, board.cells, board.rows, tally)?;
+            cells(out, board.cells, room)?;
+            totals(out, board, room)?;
+            last_line(out, advice)
         }
     }
 }
 
-fn sizes_and_tally(cells: usize, rows: usize, tally: Tally) {
-    named(b"CELLS ", cells);
-    named(b" LINES ", rows);
-    named(b"\nPASSES ", tally.passes);
-    named(b" STRUCK ", tally.struck);
-    text(b"\n");
+fn sizes_and_tally<W: Write>(
+    out: &mut W,
+    cells: usize,
+    rows: usize,
+    tally: Tally,
+) -> io::Result<()> {
+    named(out, b"CELLS ", cells)?;
+    named(out, b" LINES ", rows)?;
+    named(out, b"\nPASSES ", tally.passes)?;
+    named(out, b" STRUCK ", tally.struck)?;
+    text(out, b"\n")
 }
 
 // Each row's total over the settled domains.
-fn totals(board: Board, room: [u32; BOARD_CELLS]) {
+fn totals<W: Write>(out: &mut W, board: Board, room: [u32; BOARD_CELLS]) -> io::Result<()> {
     let rows = board.rows;
     for line in 0..BOARD_ROWS {
         let row = board.lines[line];
-        line_total(rows, line, row, room);
+        line_total(out, rows, line, row, room)?;
     }
+    Ok(())
 }
 
-fn line_total(rows: usize, line: usize, row: Row, room: [u32; BOARD_CELLS]) {
+fn line_total<W: Write>(
+    out: &mut W,
+    rows: usize,
+    line: usize,
+    row: Row,
+    room: [u32; BOARD_CELLS],
+) -> io::Result<()> {
     if rows <= line {
-        return;
+        return Ok(());
     }
-    named(b"LINE ", line);
+    named(out, b"LINE ", line)?;
     let names = row.names;
     let weights = row.weights;
     let domains = domains_of(names, room);
-    total_of(&weights, &domains, row.len, row.low, row.high);
-    text(b"\n");
+    total_of(out, &weights, &domains, row.len, row.low, row.high)?;
+    text(out, b"\n")
 }
 
 // The domains of the named cells, and none for a cell that no board has.
@@ -82,12 +98,19 @@ fn domain_of(cell: usize, room: [u32; BOARD_CELLS]) -> u32 {
 }
 
 // The total of the row of the first len cells.
-fn total_of(weights: &[u8], domains: &[u32], len: usize, low: usize, high: usize) {
+fn total_of<W: Write>(
+    out: &mut W,
+    weights: &[u8],
+    domains: &[u32],
+    len: usize,
+    low: usize,
+    high: usize,
+) -> io::Result<()> {
     if weights.len() < len {
-        return;
+        return Ok(());
     }
     if domains.len() < len {
-        return;
+        return Ok(());
     }
     let mut forward = [0u64; TABLE];
     let mut backward = [0u64; TABLE];
@@ -99,15 +122,15 @@ fn total_of(weights: &[u8], domains: &[u32], len: usize, low: usize, high: usize
         &mut forward,
         &mut backward,
     ) {
-        row::Answer::Number(total) => named(b" TOTAL ", total as usize),
-        row::Answer::Refused(number) => named(b" REFUSED ", number as usize),
+        row::Answer::Number(total) => named(out, b" TOTAL ", total as usize),
+        row::Answer::Refused(number) => named(out, b" REFUSED ", number as usize),
     }
 }
 
-fn last_line(advice: Advice) {
+fn last_line<W: Write>(out: &mut W, advice: Advice) -> io::Result<()> {
     match advice {
-        Advice::Dead => text(b"DEAD\n"),
-        Advice::Settled => text(b"SETTLED\n"),
+        Advice::Dead => text(out, b"DEAD\n"),
+        Advice::Settled => text(out, b"SETTLED\n"),
         Advice::Advise {
             cell,
             value,
@@ -116,12 +139,12 @@ fn last_line(advice: Advice) {
             total,
             share: _,
         } => {
-            named(b"ADVICE CELL ", cell);
-            named(b" VALUE ", value);
-            named(b" LINE ", row);
-            named(b" COUNT ", count as usize);
-            named(b" TOTAL ", total as usize);
-            text(b"\n");
+            named(out, b"ADVICE CELL ", cell)?;
+            named(out, b" VALUE ", value)?;
+            named(out, b" LINE ", row)?;
+            named(out, b" COUNT ", count as usize)?;
+            named(out, b" TOTAL ", total as usize)?;
+            text(out, b"\n")
         }
     }
 }

@@ -2,21 +2,27 @@
 #![tactic(auto)]
 
 use board::{Board, Row};
-use libc::STDOUT_FILENO;
+use inputs::{arg, arg_count, open_read, read_full};
 use reader::{Counts, Outcome};
 use sizes::{BOARD_CELLS, BOARD_ROWS, FILE, HIGHEST, ROW_CELLS};
+use std::io;
+use std::io::{BufWriter, Write};
+use std::rt::{Env, Files};
 use writer::Writing;
 
 // More than the longest file, so that what is too long shows.
 const MOST: usize = 4096;
 
-fn say(text: &[u8]) {
-    io::write_all(STDOUT_FILENO, text);
+// Room for an argument; a longer one is taken for none.
+const PATH: usize = 4096;
+
+fn say<W: Write>(out: &mut W, text: &[u8]) -> io::Result<()> {
+    out.write_all(text)
 }
 
-fn say_number(text: &[u8], number: usize) {
-    say(text);
-    io::print_decimal(STDOUT_FILENO, number as u64);
+fn say_number<W: Write>(out: &mut W, text: &[u8], number: usize) -> io::Result<()> {
+    say(out, text)?;
+    write!(out, "{number}")
 }
 
 fn wide(number: u8) -> usize {
@@ -24,29 +30,30 @@ fn wide(number: u8) -> usize {
 }
 
 // What the writer answered.
-fn say_writing(writing: Writing) {
+fn say_writing<W: Write>(out: &mut W, writing: Writing) -> io::Result<()> {
     match writing {
-        Writing::Written(size) => say_number(b" WRITTEN ", size),
-        Writing::Refused(number) => say_number(b" REFUSED ", wide(number)),
+        Writing::Written(size) => say_number(out, b" WRITTEN ", size),
+        Writing::Refused(number) => say_number(out, b" REFUSED ", wide(number)),
     }
 }
 
 // How many cells and rows the file has.
-fn say_counts(file: &[u8]) {
+fn say_counts<W: Write>(out: &mut W, file: &[u8]) -> io::Result<()> {
     match reader::board_counts(file) {
         Counts::Counted { cells, rows } => {
-            say_number(b" CELLS ", cells);
-            say_number(b" LINES ", rows);
+            say_number(out, b" CELLS ", cells)?;
+            say_number(out, b" LINES ", rows)
         }
-        Counts::Refused(number) => say_number(b" REFUSED ", wide(number)),
+        Counts::Refused(number) => say_number(out, b" REFUSED ", wide(number)),
     }
 }
 
 // Writes into the first size bytes of the room.
-fn write_in(room: &mut [u8], size: usize, board: Board) {
+fn write_in<W: Write>(out: &mut W, room: &mut [u8], size: usize, board: Board) -> io::Result<()> {
     if size <= room.len() {
-        say_writing(writer::write(board, &mut room[..size]));
+        return say_writing(out, writer::write(board, &mut room[..size]));
     }
+    Ok(())
 }
 
 // Whether the room begins with the file and is as the fresh room after it.
@@ -58,34 +65,36 @@ fn is_kept(file: &[u8], room: &[u8], fresh: &[u8]) -> bool {
     if fresh.len() < size {
         return false;
     }
-    if !check::same(file, &room[..size]) {
+    if file != &room[..size] {
         return false;
     }
-    check::same(&room[size..], &fresh[size..])
+    room[size..] == fresh[size..]
 }
 
 // Writes a board that was read, with room to spare.
-fn write_long(file: &[u8], board: Board) {
+fn write_long<W: Write>(out: &mut W, file: &[u8], board: Board) -> io::Result<()> {
     let fresh = [85u8; MOST];
     let mut room = [85u8; MOST];
-    write_in(&mut room, MOST, board);
+    write_in(out, &mut room, MOST, board)?;
     if is_kept(file, &room, &fresh) {
-        say(b" SAME");
+        say(out, b" SAME")?;
     }
+    Ok(())
 }
 
 // Writes it with one byte less than its file has.
-fn write_short(size: usize, board: Board) {
+fn write_short<W: Write>(out: &mut W, size: usize, board: Board) -> io::Result<()> {
     if size == 0 {
-        return;
+        return Ok(());
     }
     let fresh = [85u8; MOST];
     let mut room = [85u8; MOST];
-    say(b", ONE BYTE SHORT");
-    write_in(&mut room, size - 1, board);
-    if !check::same(&room, &fresh) {
-        say(b" CHANGED");
+    say(out, b", ONE BYTE SHORT")?;
+    write_in(out, &mut room, size - 1, board)?;
+    if room != fresh {
+        say(out, b" CHANGED")?;
     }
+    Ok(())
 }
 
 // A look into a refused read's board, which is all zero.
@@ -94,36 +103,33 @@ fn is_zero(board: Board) -> bool {
     board.cells == 0 && board.rows == 0 && board.domains[0] == 0 && row.len == 0
 }
 
-fn try_file(file: &[u8]) {
+fn try_file<W: Write>(out: &mut W, file: &[u8]) -> io::Result<()> {
     let reading = reader::read(file);
     let outcome = reading.outcome;
     let board = reading.board;
-    say_counts(file);
+    say_counts(out, file)?;
     let Outcome::Read = outcome else {
         if !is_zero(board) {
-            say(b" KEPT");
+            say(out, b" KEPT")?;
         }
-        return;
+        return Ok(());
     };
-    write_long(file, board);
-    write_short(file.len(), board);
+    write_long(out, file, board)?;
+    write_short(out, file.len(), board)
 }
 
 // Tries the file that argument i names.
-fn try_name(i: usize) {
-    let mut path = io::buffer();
-    let length = os::arg(i, &mut path);
-    let fd = os::open_read(&path[..length]);
-    if fd < 0 {
-        os::fail(&path[..length]);
-        return;
-    }
+fn try_name<R: Env + Files + Eprint, W: Write>(rt: &R, out: &mut W, i: usize) -> io::Result<()> {
+    let mut path = [0u8; PATH];
+    let length = arg(rt, i, &mut path);
+    let Some(mut file) = open_read(rt, &path[..length])? else {
+        return Ok(());
+    };
     let mut buffer = [0u8; MOST];
-    let size = io::read_full(fd, &mut buffer);
-    libc::close(fd);
-    say(&path[..length]);
-    try_file(&buffer[..size]);
-    say(b"\n");
+    let size = read_full(&mut file, &mut buffer)?;
+    say(out, &path[..length])?;
+    try_file(out, &buffer[..size])?;
+    say(out, b"\n")
 }
 
 // A board with the same row in every place, and the largest numbers in its domains and weights.
@@ -151,29 +157,37 @@ fn full(
 }
 
 // Writes a record into room of so many bytes.
-fn try_record(name: &[u8], board: Board, size: usize) {
+fn try_record<W: Write>(out: &mut W, name: &[u8], board: Board, size: usize) -> io::Result<()> {
     let mut room = [85u8; FILE];
-    say(b"RECORD ");
-    say(name);
-    write_in(&mut room, size, board);
-    say(b"\n");
+    say(out, b"RECORD ")?;
+    say(out, name)?;
+    write_in(out, &mut room, size, board)?;
+    say(out, b"\n")
 }
 
 // Records with the largest numbers in every place but those made sound so far.
-fn try_records() {
+fn try_records<W: Write>(out: &mut W) -> io::Result<()> {
     let top = usize::MAX;
-    try_record(b"cells", full(top, top, top, top, top, [top; ROW_CELLS]), 0);
     try_record(
+        out,
+        b"cells",
+        full(top, top, top, top, top, [top; ROW_CELLS]),
+        0,
+    )?;
+    try_record(
+        out,
         b"rows",
         full(BOARD_CELLS, top, top, top, top, [top; ROW_CELLS]),
         0,
-    );
+    )?;
     try_record(
+        out,
         b"length",
         full(BOARD_CELLS, BOARD_ROWS, top, top, top, [top; ROW_CELLS]),
         0,
-    );
+    )?;
     try_record(
+        out,
         b"limits",
         full(
             BOARD_CELLS,
@@ -184,8 +198,9 @@ fn try_records() {
             [top; ROW_CELLS],
         ),
         0,
-    );
+    )?;
     try_record(
+        out,
         b"names",
         full(
             BOARD_CELLS,
@@ -196,8 +211,9 @@ fn try_records() {
             [top; ROW_CELLS],
         ),
         0,
-    );
+    )?;
     try_record(
+        out,
         b"twice",
         full(
             BOARD_CELLS,
@@ -208,7 +224,7 @@ fn try_records() {
             [63; ROW_CELLS],
         ),
         0,
-    );
+    )?;
     let board = full(
         BOARD_CELLS,
         BOARD_ROWS,
@@ -217,16 +233,15 @@ fn try_records() {
         HIGHEST,
         [54, 55, 56, 57, 58, 59, 60, 61, 62, 63],
     );
-    try_record(b"room", board, FILE - 1);
-    try_record(b"largest", board, FILE);
+    try_record(out, b"room", board, FILE - 1)?;
+    try_record(out, b"largest", board, FILE)
 }
 
-fn main() {
-    let count = os::arg_count();
-    let mut i = 1;
-    while i < count {
-        try_name(i);
-        i += 1;
+fn main(rt: HostRuntime) -> io::Result<()> {
+    let mut out = BufWriter::new(rt.alloc(), io::writer(&rt))?;
+    for i in 1..arg_count(&rt) {
+        try_name(&rt, &mut out, i)?;
     }
-    try_records();
+    try_records(&mut out)?;
+    out.flush()
 }

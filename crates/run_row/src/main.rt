@@ -7,112 +7,149 @@ mod print;
 use ask::{count, strike, total, within};
 use print::entry;
 use sizes::{HIGHEST, ROW_CELLS, SUMS, TABLE, VALUES};
+use std::io;
+use std::io::{BufWriter, Write};
 
 const FULL: u32 = 4294967295;
 
 const LARGEST: usize = 18446744073709551615;
 
-fn main() {
-    figure();
-    lengths();
-    different_lengths();
-    limits();
-    last_sums();
-    short_tables();
-    long_tables();
-    places();
-    largest();
-    largest_refused();
+fn main(rt: HostRuntime) -> io::Result<()> {
+    let mut out = BufWriter::new(rt.alloc(), io::writer(&rt))?;
+    ask_all(&mut out)?;
+    out.flush()
+}
+
+fn ask_all<W: Write>(out: &mut W) -> io::Result<()> {
+    figure(out)?;
+    lengths(out)?;
+    different_lengths(out)?;
+    limits(out)?;
+    last_sums(out)?;
+    short_tables(out)?;
+    long_tables(out)?;
+    places(out)?;
+    largest(out)?;
+    largest_refused(out)
 }
 
 // The Figure row: its total, its vertices, its counts, and what striking leaves of it within three pairs of limits.
-fn figure() {
+fn figure<W: Write>(out: &mut W) -> io::Result<()> {
     let weights: [u8; 4] = [3, 1, 2, 1];
     let domains: [u32; 4] = [7, 11, 7, 6];
-    ask::figure(&weights, &domains, 5, 8);
-    ask::counts(&weights, &domains, 5, 8);
+    ask::figure(out, &weights, &domains, 5, 8)?;
+    ask::counts(out, &weights, &domains, 5, 8)?;
     let mut room = domains;
-    strike(b"struck, 5 to 8", &weights, &mut room, 5, 8);
-    strike(b"struck, 12 to 13", &weights, &mut room, 12, 13);
-    strike(b"struck, 100 to 511", &weights, &mut room, 100, HIGHEST);
+    strike(out, b"struck, 5 to 8", &weights, &mut room, 5, 8)?;
+    strike(out, b"struck, 12 to 13", &weights, &mut room, 12, 13)?;
+    strike(
+        out,
+        b"struck, 100 to 511",
+        &weights,
+        &mut room,
+        100,
+        HIGHEST,
+    )
 }
 
 // Row lengths 0, 1, 10 and 11.
-fn lengths() {
+fn lengths<W: Write>(out: &mut W) -> io::Result<()> {
     let weights = [0u8; 11];
     let domains = [FULL; 11];
-    total(b"no cells", &weights[..0], &domains[..0], 0, 0);
+    total(out, b"no cells", &weights[..0], &domains[..0], 0, 0)?;
     total(
+        out,
         b"one cell of 32 values, weight 0",
         &weights[..1],
         &domains[..1],
         0,
         0,
-    );
+    )?;
     total(
+        out,
         b"ten cells of 32 values, weight 0",
         &weights[..ROW_CELLS],
         &domains[..ROW_CELLS],
         0,
         0,
-    );
-    total(b"eleven cells", &weights, &domains, 0, 0);
+    )?;
+    total(out, b"eleven cells", &weights, &domains, 0, 0)
 }
 
 // Lists of different length.
-fn different_lengths() {
+fn different_lengths<W: Write>(out: &mut W) -> io::Result<()> {
     let weights = [0u8; ROW_CELLS];
     let domains = [FULL; ROW_CELLS];
-    total(b"ten weights, nine domains", &weights, &domains[..9], 0, 0);
-    total(b"nine weights, ten domains", &weights[..9], &domains, 0, 0);
+    total(
+        out,
+        b"ten weights, nine domains",
+        &weights,
+        &domains[..9],
+        0,
+        0,
+    )?;
+    total(
+        out,
+        b"nine weights, ten domains",
+        &weights[..9],
+        &domains,
+        0,
+        0,
+    )
 }
 
 // High 511 and 512, and low above high.
-fn limits() {
+fn limits<W: Write>(out: &mut W) -> io::Result<()> {
     let weights = [255u8];
     let domains = [12u32];
     total(
+        out,
         b"{2,3}, weight 255, 510 to 511",
         &weights,
         &domains,
         510,
         HIGHEST,
-    );
+    )?;
     total(
+        out,
         b"{2,3}, weight 255, 510 to 512",
         &weights,
         &domains,
         510,
         SUMS,
-    );
+    )?;
     total(
+        out,
         b"{2,3}, weight 255, 510 to 510",
         &weights,
         &domains,
         510,
         510,
-    );
+    )?;
     total(
+        out,
         b"{2,3}, weight 255, 511 to 510",
         &weights,
         &domains,
         HIGHEST,
         510,
-    );
+    )
 }
 
 // The last sum, 511, and partial sums past it.
-fn last_sums() {
+fn last_sums<W: Write>(out: &mut W) -> io::Result<()> {
     let weights: [u8; 2] = [255, 1];
     let domains = [FULL; 2];
     total(
+        out,
         b"32 values twice, weights 255 and 1, 511 to 511",
         &weights,
         &domains,
         HIGHEST,
         HIGHEST,
-    );
+    )?;
     count(
+        out,
         b"its place 0, value 2",
         &weights,
         &domains,
@@ -120,8 +157,9 @@ fn last_sums() {
         HIGHEST,
         0,
         2,
-    );
+    )?;
     count(
+        out,
         b"its place 1, value 1",
         &weights,
         &domains,
@@ -129,8 +167,9 @@ fn last_sums() {
         HIGHEST,
         1,
         1,
-    );
+    )?;
     count(
+        out,
         b"its place 0, value 3",
         &weights,
         &domains,
@@ -138,59 +177,73 @@ fn last_sums() {
         HIGHEST,
         0,
         3,
-    );
+    )
 }
 
 // A table of 5,631 entries, the first or the second: refused, and both hold what they held.
-fn short_tables() {
+fn short_tables<W: Write>(out: &mut W) -> io::Result<()> {
     let mut short = [7u64; 5631];
     let mut enough = [7u64; TABLE];
     within(
+        out,
         b"forward table of 5,631",
         &[1u8],
         &[3u32],
         &mut short,
         &mut enough,
-    );
+    )?;
     within(
+        out,
         b"backward table of 5,631",
         &[1u8],
         &[3u32],
         &mut enough,
         &mut short,
-    );
-    entry(b"left in the short table at", 0, &short);
-    entry(b"left in the other at", 0, &enough);
+    )?;
+    entry(out, b"left in the short table at", 0, &short)?;
+    entry(out, b"left in the other at", 0, &enough)
 }
 
 // Tables of 5,632 entries and more: entries past the row's layers are unchanged.
-fn long_tables() {
+fn long_tables<W: Write>(out: &mut W) -> io::Result<()> {
     let mut forward = [7u64; TABLE];
     let mut backward = [7u64; 6000];
     within(
+        out,
         b"tables of 5,632 and 6,000, ten cells of {0,1}",
         &[1u8; ROW_CELLS],
         &[3u32; ROW_CELLS],
         &mut forward,
         &mut backward,
-    );
-    print::ends(&forward, &backward);
+    )?;
+    print::ends(out, &forward, &backward)?;
     within(
+        out,
         b"and then one cell of {0,1}",
         &[1u8],
         &[3u32],
         &mut forward,
         &mut backward,
-    );
-    print::ends(&forward, &backward);
+    )?;
+    print::ends(out, &forward, &backward)
 }
 
 // Place and value at and past their ends.
-fn places() {
+fn places<W: Write>(out: &mut W) -> io::Result<()> {
     let weights = [1u8; 3];
     let domains: [u32; 3] = [FULL, FULL, 3];
-    count(b"place 2 of 3, value 1", &weights, &domains, 31, 31, 2, 1);
     count(
+        out,
+        b"place 2 of 3, value 1",
+        &weights,
+        &domains,
+        31,
+        31,
+        2,
+        1,
+    )?;
+    count(
+        out,
         b"place 2 of 3, value 2, not listed",
         &weights,
         &domains,
@@ -198,9 +251,19 @@ fn places() {
         31,
         2,
         2,
-    );
-    count(b"place 1 of 3, value 31", &weights, &domains, 31, 31, 1, 31);
+    )?;
     count(
+        out,
+        b"place 1 of 3, value 31",
+        &weights,
+        &domains,
+        31,
+        31,
+        1,
+        31,
+    )?;
+    count(
+        out,
         b"place 1 of 3, value 32",
         &weights,
         &domains,
@@ -208,9 +271,19 @@ fn places() {
         31,
         1,
         VALUES,
-    );
-    count(b"place 3 of 3, value 31", &weights, &domains, 31, 31, 3, 31);
+    )?;
     count(
+        out,
+        b"place 3 of 3, value 31",
+        &weights,
+        &domains,
+        31,
+        31,
+        3,
+        31,
+    )?;
+    count(
+        out,
         b"place 3 of 3, low above high",
         &weights,
         &domains,
@@ -218,28 +291,31 @@ fn places() {
         31,
         3,
         31,
-    );
+    )
 }
 
 // Every number at its largest that is a row.
-fn largest() {
+fn largest<W: Write>(out: &mut W) -> io::Result<()> {
     let weights = [255u8; ROW_CELLS];
     let mut room = [FULL; ROW_CELLS];
     total(
+        out,
         b"ten cells of 32 values, weight 255, 511 to 511",
         &weights,
         &room,
         HIGHEST,
         HIGHEST,
-    );
+    )?;
     total(
+        out,
         b"ten cells of 32 values, weight 255, 0 to 511",
         &weights,
         &room,
         0,
         HIGHEST,
-    );
+    )?;
     count(
+        out,
         b"its last place, value 2",
         &weights,
         &room,
@@ -247,8 +323,9 @@ fn largest() {
         HIGHEST,
         9,
         2,
-    );
+    )?;
     count(
+        out,
         b"its last place, value 31",
         &weights,
         &room,
@@ -256,17 +333,25 @@ fn largest() {
         HIGHEST,
         9,
         31,
-    );
-    strike(b"struck", &weights, &mut room, 0, HIGHEST);
+    )?;
+    strike(out, b"struck", &weights, &mut room, 0, HIGHEST)
 }
 
 // And past that: a refusal leaves the domains as they were.
-fn largest_refused() {
+fn largest_refused<W: Write>(out: &mut W) -> io::Result<()> {
     let weights = [255u8; ROW_CELLS];
     let mut room = [FULL; ROW_CELLS];
-    strike(b"high the largest", &weights, &mut room, 0, LARGEST);
-    strike(b"low the largest", &weights, &mut room, LARGEST, HIGHEST);
+    strike(out, b"high the largest", &weights, &mut room, 0, LARGEST)?;
+    strike(
+        out,
+        b"low the largest",
+        &weights,
+        &mut room,
+        LARGEST,
+        HIGHEST,
+    )?;
     count(
+        out,
         b"place the largest",
         &weights,
         &room,
@@ -274,8 +359,9 @@ fn largest_refused() {
         HIGHEST,
         LARGEST,
         0,
-    );
+    )?;
     count(
+        out,
         b"value the largest",
         &weights,
         &room,
@@ -283,5 +369,5 @@ fn largest_refused() {
         HIGHEST,
         0,
         LARGEST,
-    );
+    )
 }

@@ -110,21 +110,17 @@ fn full_row(i: usize) -> Row
     row.len = ROW_CELLS;
     row.low = 40 + 4 * i;
     row.high = 40 + 4 * i;
-    let mut k = 0;
-    while k < ROW_CELLS {
+    for k in 0..ROW_CELLS {
         row.names[k] = (2 * i + 7 * k) % BOARD_CELLS;
         row.weights[k] = ((i + 3 * k) % 7 + 1) as u8;
-        k += 1;
     }
     row
 }
 
 fn full_rows() -> [Row; BOARD_ROWS] {
     let mut rows = [zero_row(); BOARD_ROWS];
-    let mut i = 0;
-    while i < BOARD_ROWS {
+    for i in 0..BOARD_ROWS {
         rows[i] = full_row(i);
-        i += 1;
     }
     rows
 }
@@ -139,10 +135,8 @@ fn full_domain(c: usize) -> u32 {
 
 fn full_domains() -> [u32; BOARD_CELLS] {
     let mut domains = [0; BOARD_CELLS];
-    let mut c = 0;
-    while c < BOARD_CELLS {
+    for c in 0..BOARD_CELLS {
         domains[c] = full_domain(c);
-        c += 1;
     }
     domains
 }

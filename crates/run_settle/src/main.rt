@@ -8,63 +8,71 @@ ghost use Rattle.sizes.specs.Sizes.{board_cells};
 
 use board::Board;
 use board::inner::board_refuses;
-use libc::STDOUT_FILENO;
 use settle::Tally;
 use settle::inner::settle;
 use sizes::BOARD_CELLS;
+use std::io;
+use std::io::{BufWriter, Write};
 
-fn print(text: &[u8]) {
-    io::write_all(STDOUT_FILENO, text);
+fn print<W: Write>(out: &mut W, text: &[u8]) -> io::Result<()> {
+    out.write_all(text)
 }
 
-fn print_number(n: usize) {
-    io::print_decimal(STDOUT_FILENO, n as u64);
+fn print_number<W: Write>(out: &mut W, n: usize) -> io::Result<()> {
+    write!(out, "{n}")
 }
 
-fn print_domain(domain: u32) {
-    print(b" ");
-    io::print_hex(STDOUT_FILENO, domain as u64, 8);
+fn print_domain<W: Write>(out: &mut W, domain: u32) -> io::Result<()> {
+    write!(out, " {domain:08x}")
 }
 
-fn print_domains(domains: [u32; BOARD_CELLS], cells: usize)
+fn print_domains<W: Write>(out: &mut W, domains: [u32; BOARD_CELLS], cells: usize) -> io::Result<()>
     requires { cells ≤ board_cells }
 {
-    let mut c = 0;
-    while c < cells {
-        print_domain(domains[c]);
-        c += 1;
+    for c in 0..cells {
+        print_domain(out, domains[c])?;
     }
-    print(b"\n");
+    print(out, b"\n")
 }
 
-fn print_settled(tally: Tally, domains: [u32; BOARD_CELLS], cells: usize)
+fn print_settled<W: Write>(
+    out: &mut W,
+    tally: Tally,
+    domains: [u32; BOARD_CELLS],
+    cells: usize,
+) -> io::Result<()>
     requires { cells ≤ board_cells }
 {
-    print(b": passes ");
-    print_number(tally.passes);
-    print(b", struck ");
-    print_number(tally.struck);
-    print(b", left");
-    print_domains(domains, cells);
+    print(out, b": passes ")?;
+    print_number(out, tally.passes)?;
+    print(out, b", struck ")?;
+    print_number(out, tally.struck)?;
+    print(out, b", left")?;
+    print_domains(out, domains, cells)
 }
 
-fn show(name: &[u8], board: Board) {
-    print(name);
+fn show<W: Write>(out: &mut W, name: &[u8], board: Board) -> io::Result<()> {
+    print(out, name)?;
     if board_refuses(board) != 0 {
-        print(b": refused\n");
-        return;
+        return print(out, b": refused\n");
     }
     let cells = board.cells;
     let mut room = board.domains;
     let tally = settle(board, &mut room);
-    print_settled(tally, room, cells);
+    print_settled(out, tally, room, cells)
 }
 
-fn main() {
-    show(b"the report's board", boards::report());
-    show(b"the last row strikes, then the first", boards::back());
-    show(b"many passes", boards::many());
-    show(b"dead", boards::dead());
-    show(b"loose cells", boards::loose());
-    show(b"64 cells, 32 full rows", boards::large());
+fn main(rt: HostRuntime) -> io::Result<()> {
+    let mut out = BufWriter::new(rt.alloc(), io::writer(&rt))?;
+    show_all(&mut out)?;
+    out.flush()
+}
+
+fn show_all<W: Write>(out: &mut W) -> io::Result<()> {
+    show(out, b"the report's board", boards::report())?;
+    show(out, b"the last row strikes, then the first", boards::back())?;
+    show(out, b"many passes", boards::many())?;
+    show(out, b"dead", boards::dead())?;
+    show(out, b"loose cells", boards::loose())?;
+    show(out, b"64 cells, 32 full rows", boards::large())
 }
