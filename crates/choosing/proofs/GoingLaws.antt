@@ -1,6 +1,6 @@
 -- `beats` is an order; among candidates that have densities there is one and only one that nothing beats, and going through them finds it.
 -- All over both tie orders. Assumes nothing.
-use Rattle.std.specs.Prelude.{◌≡◌, ◌⊎◌, true, false, cond}
+use Rattle.std.specs.Prelude.{◌≡◌, true, false, cond}
 use Rattle.std.proofs.Math.Path.{refl, sym}
 use Rattle.std.proofs.Common.{ap, ◌∙◌, ⊎_elim, add-one, arith, eqb-true, eq-eqb}
 use Rattle.std.proofs.Math.Bool.{Bool}

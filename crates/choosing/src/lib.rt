@@ -1,1 +1,3 @@
+#![tactic(auto)]
+
 // What advising a move means, and its laws: see specs/. No code.

@@ -1,6 +1,6 @@
 -- Sums over all fillings of a row: by its first cell, by its last, by two parts; that they look at fillings only, grow, and are at most 32 to the n.
 -- Assumes nothing.
-use Rattle.std.specs.Prelude.{◌≡◌, refl, Bool, true, false, List, [], ◌∷◌, ◌++◌, ℕ, zero, suc, ◌+◌, ◌^◌, ◌≤◌, ◌<◌, length, get_or}
+use Rattle.std.specs.Prelude.{◌≡◌, refl, Bool, true, false, List, [], ◌∷◌, ◌++◌, ℕ, zero, suc, ◌^◌, ◌≤◌, ◌<◌, length, get_or}
 use Rattle.std.proofs.Common.{sym, ap, ◌∙◌, add-zero, mul-le-mul_right, le_trans, le_refl, le_of_eq, le_of_suc-le-suc, arith}
 use Rattle.std.proofs.Math.Nat.{pow-succ'}
 use Rattle.told.specs.Told.{when}

@@ -1,5 +1,4 @@
 -- `reader::domains_in` meets its contract: the loop has filled the places of the cells that it passed. Assumes nothing.
-use Prim.Native.Nat.{◌-◌}
 use native.Mathlib.Omega.{arith}
 use Rattle.board.specs.BoardLaws.{filled_start, filled_next, filled_end}
 use Rattle.reader.proofs.domains_in.Goals as goal

@@ -1,6 +1,6 @@
 -- `reader::lines_in` meets its contract: the loop stands at the next row, and has filled the places of those that it passed. Assumes nothing.
 use mathlib.Core.Path.{ap, ◌∙◌}
-use Prim.Native.Nat.{◌-◌, ◌<◌}
+use Prim.Native.Nat.{◌<◌}
 use native.Mathlib.Omega.{arith}
 use Rattle.sizes.specs.Sizes.{board_rows}
 use Rattle.board.specs.BoardLaws.{filled_start, filled_next, filled_end}

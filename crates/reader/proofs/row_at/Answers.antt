@@ -1,5 +1,4 @@
 -- `reader::row_at` meets its contract: the loop has filled the places of the pairs that it passed. Assumes nothing.
-use Prim.Native.Nat.{◌-◌}
 use mathlib.Core.Path.{refl}
 use native.Mathlib.Omega.{arith}
 use Rattle.board.specs.BoardLaws.{filled_start, filled_next}

@@ -1,6 +1,5 @@
 -- `reader::rows_refuse` meets its contract: the loop stands at the next row, and has passed rows that are not refused. Assumes nothing.
 use mathlib.Core.Path.{sym, ap, ◌∙◌}
-use Prim.Native.Nat.{◌-◌}
 use native.Mathlib.Omega.{arith}
 use Rattle.told.proofs.ToldLaws.{firsts_start, firsts_next}
 use Rattle.reader.specs.Reading.{row_in_refuses}

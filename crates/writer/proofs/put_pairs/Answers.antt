@@ -1,6 +1,5 @@
 -- `writer::put_pairs` meets its contract: the loop has put the pairs that it passed one after the other. Assumes nothing.
 use mathlib.Core.Path.{refl, ◌∙◌}
-use Prim.Native.Nat.{◌-◌}
 use native.Mathlib.Omega.{arith}
 use Rattle.writer.proofs.Runs.{put_start, put_next, put_end}
 use Rattle.writer.specs.BytesLaws.{pairs_size}

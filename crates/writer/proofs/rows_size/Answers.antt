@@ -1,6 +1,6 @@
 -- `writer::rows_size` meets its contract: the loop has added up the rows that it passed. Assumes nothing.
 use mathlib.Core.Path.{◌≡◌}
-use Prim.Native.Nat.{◌+◌, ◌*◌, ◌≤◌, ◌-◌}
+use Prim.Native.Nat.{◌+◌, ◌*◌, ◌≤◌}
 use native.Mathlib.Omega.{arith}
 use Rattle.sizes.specs.Sizes.{row_cells}
 use Rattle.board.specs.Board.{row_at}

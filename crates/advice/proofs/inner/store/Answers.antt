@@ -1,6 +1,6 @@
 -- `inner::store` meets its contract: the loop has stored the domains of the cells passed. Assumes nothing.
 use mathlib.Core.Path.{◌≡◌, refl}
-use Prim.Native.Nat.{◌-◌, ◌<◌}
+use Prim.Native.Nat.{◌<◌}
 use native.Mathlib.Omega.{arith}
 use borrow.Author.Rules.{rules}
 use Rattle.sizes.specs.Sizes.{board_cells}

@@ -1,5 +1,4 @@
 -- `board::inner::lines_refuse` meets its contract: the loop has passed rows that are not refused. Assumes nothing.
-use Prim.Native.Nat.{◌-◌}
 use native.Mathlib.Omega.{arith}
 use Rattle.told.proofs.ToldLaws.{firsts_start, firsts_next, firsts_stop, firsts_end}
 use Rattle.board.proofs.inner.lines_refuse.Goals as goal

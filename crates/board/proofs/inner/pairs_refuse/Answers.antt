@@ -1,5 +1,4 @@
 -- `board::inner::pairs_refuse` meets its contract: the loop has passed pairs that are not refused. Assumes nothing.
-use Prim.Native.Nat.{◌-◌}
 use native.Mathlib.Omega.{arith}
 use Rattle.told.proofs.ToldLaws.{firsts_start, firsts_next, firsts_stop, firsts_end}
 use Rattle.board.proofs.inner.pairs_refuse.Goals as goal

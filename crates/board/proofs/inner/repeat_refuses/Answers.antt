@@ -1,5 +1,4 @@
 -- `board::inner::repeat_refuses` meets its contract: the loop has passed pairs that name other cells. Assumes nothing.
-use Prim.Native.Nat.{◌-◌}
 use mathlib.Core.Path.{refl}
 use native.Mathlib.Omega.{arith}
 use borrow.Author.Tests.{eq-eqb, ne_eqb}

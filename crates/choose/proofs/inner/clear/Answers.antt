@@ -1,6 +1,5 @@
 -- `inner::clear` meets its contract: the loop has stored zeros at the places passed. Assumes nothing.
 use mathlib.Core.Path.{refl}
-use Prim.Native.Nat.{◌-◌}
 use native.Mathlib.Omega.{arith}
 use borrow.Author.Rules.{rules}
 use Rattle.listing.specs.Writing.{written_none, written_more}

@@ -1,6 +1,5 @@
 -- `inner::some_empty` meets its contract: no domain passed is empty, so those to come decide. Assumes nothing.
 use mathlib.Core.Path.{refl}
-use Prim.Native.Nat.{◌-◌}
 use native.Mathlib.Omega.{arith}
 use Rattle.choosing.proofs.ChoiceLaws.{empty_here, empty_on, empty_end}
 use Rattle.choose.proofs.inner.some_empty.Goals as goal

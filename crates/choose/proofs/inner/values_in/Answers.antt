@@ -1,5 +1,4 @@
 -- `inner::values_in` meets its contract: the loop has added up the bits passed. Assumes nothing.
-use Prim.Native.Nat.{◌-◌}
 use native.Mathlib.Omega.{arith}
 use borrow.Author.Rules.{rules}
 use Rattle.choose.specs.StepLaws.{ones_none, ones_turn, ones_end}

@@ -1,6 +1,6 @@
 -- `inner::with_places` meets its contract: the loop has gone through the places passed. Assumes nothing.
 use mathlib.Core.List.{List}
-use Prim.Native.Nat.{ℕ, ◌-◌}
+use Prim.Native.Nat.{ℕ}
 use native.Mathlib.Omega.{arith}
 use Rattle.choosing.specs.Choosing.{Candidate, of_place, of_row}
 use Rattle.choosing.proofs.GoingLaws.{through_start, through_turn, through_end}

@@ -1,7 +1,7 @@
 -- `inner::with_rows` meets its contract: the loop has gone through the rows passed, and the tables are kept past 5,632 entries. Assumes nothing.
 use mathlib.Core.Path.{refl, ap, ◌∙◌}
 use mathlib.Core.List.{List}
-use Prim.Native.Nat.{ℕ, ◌-◌}
+use Prim.Native.Nat.{ℕ}
 use native.Mathlib.Omega.{arith}
 use borrow.Author.Rules.{rules}
 use Rattle.board.specs.Board.{row_at}

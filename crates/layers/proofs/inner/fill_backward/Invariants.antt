@@ -1,6 +1,6 @@
 -- `fill_backward` meets its contract: the layers from i to the last are written, and the one below follows from the one at i. Assumes nothing.
 use mathlib.Core.Path.{◌≡◌}
-use Prim.Native.Nat.{◌-◌, ◌*◌, ◌≤◌}
+use Prim.Native.Nat.{◌*◌, ◌≤◌}
 use lib.ListN.{length}
 use Rattle.sizes.specs.Sizes.{sums}
 use Rattle.listing.specs.Written.{Written}

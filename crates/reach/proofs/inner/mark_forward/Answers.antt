@@ -1,6 +1,5 @@
 -- `inner::mark_forward` meets its contract: after i turns the layers from 0 to i are marked. Assumes nothing.
 use mathlib.Core.Path.{◌≡◌}
-use Prim.Native.Nat.{◌-◌}
 use native.Mathlib.Omega.{arith}
 use lib.ListN.{length}
 use Rattle.reach.specs.Layers.{forward_start, forward_more}

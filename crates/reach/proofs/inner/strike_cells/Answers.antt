@@ -1,6 +1,6 @@
 -- `inner::strike_cells` meets its contract: after i turns the first i cells are struck. Assumes nothing.
 use mathlib.Core.Path.{◌≡◌}
-use Prim.Native.Nat.{◌+◌, ◌-◌}
+use Prim.Native.Nat.{◌+◌}
 use native.Mathlib.Omega.{arith}
 use lib.ListN.{length, set}
 use Rattle.counting.specs.Steps.{StruckTo}

@@ -1,6 +1,6 @@
 -- `inner::cut_all_to_lowest` meets its contract: the loop has cut the domains passed. Assumes nothing.
 use mathlib.Core.Path.{refl, ap, ◌∙◌}
-use Prim.Native.Nat.{ℕ, ◌-◌, ◌^◌}
+use Prim.Native.Nat.{ℕ, ◌^◌}
 use native.Mathlib.Omega.{arith}
 use lib.ListN.{length-set}
 use Rattle.listing.specs.Writing.{written_none, written_more}

@@ -15,8 +15,7 @@ overflow_sub-level c =
 pub returns : goal.returns
 returns c =
     let v = c.copy.ensures in
-    let p = c.only-p.ensures in
-    (
+    let p = c.only-p.ensures in (
       ap (set c.args.domains.now c.args.cell) p,
       ap₂ (λ (l : List ℕ) (q : ℕ). set l c.args.cell (get_or l c.args.cell 0 - q)) v p,
     )

@@ -1,6 +1,5 @@
 -- `settle::inner::gather_row` meets its contract: the loop has copied the domains of the cells passed. Assumes nothing.
 use mathlib.Core.Path.{refl}
-use Prim.Native.Nat.{◌-◌}
 use native.Mathlib.Omega.{arith}
 use borrow.Author.Rules.{rules}
 use lib.ListN.{length-set}

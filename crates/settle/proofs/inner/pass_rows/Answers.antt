@@ -1,6 +1,5 @@
 -- `settle::inner::pass_rows` meets its contract: the loop has visited the rows passed, and tallied what they struck. Assumes nothing.
 use mathlib.Core.Path.{◌≡◌, refl, sym, ap, ◌∙◌}
-use Prim.Native.Nat.{◌-◌}
 use native.Mathlib.Omega.{arith}
 use lib.ListN.{length}
 use Rattle.board.specs.Board.{row_at}

@@ -1,6 +1,5 @@
 -- `settle::inner::scatter_row` meets its contract: what the loop has still to put makes what is to be put in all. Assumes nothing.
 use mathlib.Core.Path.{refl, sym, ◌∙◌}
-use Prim.Native.Nat.{◌-◌}
 use native.Mathlib.Omega.{arith}
 use borrow.Author.Rules.{rules}
 use lib.ListN.{length-set}

@@ -30,8 +30,7 @@ module _ (rs : List Row) (given d e : List ℕ) (t u : Tally)
       let whole : e ≡ (settle rs given).left = made ∙ sym last.0 ∙ sym left in
       (whole, tally_by u (settle rs given) (omega (arith, last.1)) (omega (arith, settle_struck rs given, ap size whole)))
 
-
--- UNPARSED
+  -- UNPARSED
   onward : size e < size d → ((settle rs given).left ≡ (settle rs e).left) × ((settle rs given).passes ≡ u.passes + (settle rs e).passes)
   onward h =
       let more = settle_more rs d (omega (arith, ap size made)) in

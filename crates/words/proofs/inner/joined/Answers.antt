@@ -1,6 +1,5 @@
 -- `inner::joined` meets its contract: after j turns the first j words are joined. Assumes nothing.
 use mathlib.Core.Path.{◌≡◌}
-use Prim.Native.Nat.{◌-◌}
 use native.Mathlib.Omega.{arith}
 use Rattle.words.specs.Words.{set_words}
 use Rattle.words.specs.Sets.{joined_none, joined_more, joined_all}

@@ -1,6 +1,5 @@
 -- `inner::put` meets its contract: after k turns the first k words are written. Assumes nothing.
 use mathlib.Core.Path.{◌≡◌, refl}
-use Prim.Native.Nat.{◌-◌}
 use native.Mathlib.Omega.{arith}
 use Rattle.words.specs.Words.{set_words}
 use Rattle.words.specs.Sets.{put_none, put_more}
