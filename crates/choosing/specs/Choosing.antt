@@ -1,4 +1,4 @@
--- What advising a move means, in document 01's words. Definitions only; their laws stand in the files beside this one.
+-- What advising a move means, in document 01's words. Definitions only; their laws stand in proofs/ and in the files beside this one.
 -- rs are a board's rows and d its domains, one for each cell; i is a row's number, p a place in it, both from 0, and v a value.
 use Rattle.std.specs.Prelude.{Bool, true, false, cond, ◌||◌, eqb, ltb, Float, length, get_or}
 use mathlib.Core.List.{List, [], ◌∷◌, map, flat_map}

@@ -1,3 +1,3 @@
 #![tactic(auto)]
 
-// What advising a move means, and its laws: see specs/. No code.
+// What advising a move means, and its laws: see specs/ and proofs/. No code.

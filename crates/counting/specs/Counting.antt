@@ -1,4 +1,4 @@
--- What counting in a weighted row means, in document 01's words. Definitions only; their laws stand in the files beside this one.
+-- What counting in a weighted row means, in document 01's words. Definitions only; their laws stand in proofs/ and in the files beside this one.
 -- ws are a row's weights, ds its domains, low and high its limits; p is a place in the row, from 0, and v a value.
 use Rattle.std.specs.Prelude.{◌≡◌, Bool, true, ◌&&◌, not, ℕ, ◌+◌, ◌*◌, ◌/◌, ◌%◌, ◌^◌, ◌<◌, leb, eqb, length, get_or, take, drop}
 use mathlib.Core.List.{List, [], ◌∷◌, map, flat_map}

@@ -1,3 +1,3 @@
 #![tactic(auto)]
 
-// What counting in a weighted row means, and its laws: see specs/. No code.
+// What counting in a weighted row means, and its laws: see specs/ and proofs/. No code.

@@ -32,7 +32,7 @@ pub fn refused<W: Write>(out: &mut W, number: u8) -> io::Result<()>
     text(out, b"\n")
 }
 
-// How a search ended, and how many of the choices given it followed. No more are left than were given (`left-most`), so nothing wraps.
+// How a search ended, and how many of the choices given it followed. No more are left than were given (`left_most`), so nothing wraps.
 pub fn ended<W: Write>(out: &mut W, word: &[u8], given: u64, left: u64) -> io::Result<()>
     ensures { left ≤ given → OnOk result (Appends (W.contents out.old) (W.contents out.new) (ended_text word.now given left)) }
 {

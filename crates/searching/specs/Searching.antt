@@ -1,4 +1,4 @@
--- What finishing a board by search means, in the words of request R-1. Definitions only; their laws stand in the files beside this one.
+-- What finishing a board by search means, in the words of request R-1. Definitions only; their laws stand in proofs/ and in the files beside this one.
 -- rs are a board's rows and d its domains, one for each cell; c is a cell and v a value.
 use Rattle.std.specs.Prelude.{cond, List, map, ℕ, zero, suc, ◌+◌, ◌-◌, ◌^◌, ltb, get_or, set}
 use Rattle.counting.specs.Counting.{listed, size}
@@ -57,7 +57,7 @@ search_in (suc n) rs d =
       | advise x share ↦ more 1 (or_else (search_in n rs (cut_to s x.cell x.value)) (search_in n rs (removed s x.cell x.value)))
     ]
 
--- each branch lists fewer values, so one more than the values listed are enough: `never-used-up`
+-- each branch lists fewer values, so one more than the values listed are enough: `never_used_up`
 unfoldable pub searched : List Row → List ℕ → Found
 searched rs d = search_in (suc (size d)) rs d
 

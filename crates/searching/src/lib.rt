@@ -1,3 +1,3 @@
 #![tactic(auto)]
 
-// What finishing a board by search means, and its laws: see specs/. No code.
+// What finishing a board by search means, and its laws: see specs/ and proofs/. No code.

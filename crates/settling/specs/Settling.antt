@@ -1,4 +1,4 @@
--- What settling a board means, in document 01's words. Definitions only; their laws stand in the files beside this one.
+-- What settling a board means, in document 01's words. Definitions only; their laws stand in proofs/ and in the files beside this one.
 -- rs are a board's rows, d its domains, one for each cell; c is a cell, p a place in a row, both from 0, and v a value.
 use Rattle.std.specs.Prelude.{◌≡◌, Bool, true, false, ℕ, zero, suc, ◌-◌, ◌^◌, ◌≤◌, ◌<◌, ltb, length, get_or, set}
 use mathlib.Core.List.{List, [], ◌∷◌, map, Memᴰ, Permᴰ}

@@ -1,3 +1,3 @@
 #![tactic(auto)]
 
-// What settling a board means, and its laws: see specs/. No code.
+// What settling a board means, and its laws: see specs/ and proofs/. No code.
