@@ -13,7 +13,7 @@ import sys
 
 here = os.path.dirname(os.path.abspath(__file__))
 root = os.path.normpath(os.path.join(here, "..", ".."))
-IMPORT = re.compile(r"^(?:ghost )?use Rattle·(\w+)(?:·\w+)?\.(specs|proofs)\.(\w+)", re.M)
+IMPORT = re.compile(r"^(?:ghost )?use Rattle\.(\w+)\.(specs|proofs)\.(\w+)", re.M)
 MARK = "Definitions only"
 
 
@@ -23,12 +23,12 @@ def content(path):
 
 
 def reached(path):
-    """The files to which a file's imports lead, itself left out. What is `declared` in the code as a type has no file."""
-    found, todo = set(), [path]
+    """The repository's files to which a file's imports lead, itself left out. What is `declared` in the code as a type has no file."""
+    found, todo, ours = set(), [path], crates()
     while todo:
         for crate, folder, name in IMPORT.findall(content(todo.pop())):
             to = f"crates/{crate}/{folder}/{name}.antt"
-            if to not in found and name != "declared":
+            if crate in ours and to not in found and name != "declared":
                 found.add(to)
                 todo.append(to)
     return found
@@ -39,7 +39,7 @@ def lines(paths):
 
 
 def crates():
-    return [line.split(":")[0] for line in content("crates.txt").splitlines() if ":" in line and not line.startswith("#")]
+    return [line.split(":")[0].split()[0] for line in content("crates.txt").splitlines() if ":" in line and not line.startswith("#")]
 
 
 def table():
