@@ -1,7 +1,7 @@
 #!/usr/bin/env python3
 """Holds the lessons to what they quote.
 
-usage: check.py [--program PATH] [--search PATH]
+usage: check.py [--program PATH] [--search PATH] [--log PATH]
 
 A fenced block of a page opens with what it holds and a name:
   hex NAME                     the bytes of boards/NAME.board
@@ -12,7 +12,8 @@ A fenced block of a page opens with what it holds and a name:
   wrong-search NAME CHOICES    what the wrong idea NAME of ideas.py prints then; it must end otherwise
   definition PATH              lines that stand together in that file
   edit CRATE/LABEL             the whole of that must-fail edit
-  says CRATE/LABEL             what the prover says of it; parts left out are marked by ' .. '. Compared where the log of the last run stands
+  says CRATE/LABEL             what the prover says of it first; parts left out are marked by ' .. '. Compared where a log of `rt ci` is given,
+                               which has the beginning of it
 """
 import argparse
 import glob
@@ -28,6 +29,7 @@ root = os.path.normpath(os.path.join(ideas.here, "..", ".."))
 options = argparse.ArgumentParser()
 options.add_argument("--program", default=os.path.join(root, "target", "bin", "report"))
 options.add_argument("--search", default=os.path.join(root, "target", "bin", "finish"))
+options.add_argument("--log")
 options = options.parse_args()
 
 BLOCK = re.compile(r"^```(hex|board|right|wrong|search|wrong-search|definition|edit|says) (\S+(?: \d+)?)\n(.*?)^```$", re.M | re.S)
@@ -96,14 +98,14 @@ def same_edit(name, text):
 
 
 def same_says(name, text):
-    """Each part stands in the log, after the part before it."""
-    try:
-        log = content("target", "must-fail", *name.split("/"), ".log").decode()
-    except FileNotFoundError:
+    """Each part stands in the log's line of that edit, after the part before it."""
+    if options.log is None:
         return None
+    with open(options.log, encoding="utf-8", errors="replace") as f:
+        said = "".join(line for line in f if f"must-fail {name}.edit: refused" in line)
     at = 0
     for part in re.split(r" \.\. |\n", text.strip()):
-        at = log.find(part.strip(), at)
+        at = said.find(part.strip(), at)
         if at < 0:
             return False
         at += len(part.strip())
