@@ -2,7 +2,16 @@
 use mathlib.Core.Path.{◌≡◌, refl, sym, ap, ◌∙◌}
 use Prim.Native.Nat.{ℕ}
 use mathlib.Core.List.{List}
+use seplogic.Ra.Ura.{Ura}
+use base.Logic.{SProp, ent, sep, id⊢, via, fst∗, snd∗}
+use prog.Memory.{Memory}
+use prog.Routine.{Routine}
+use types.Logic.{Logic}
+use contract.Lifetimes.{Lfts}
+use contract.Monad.{Fun, fact, fact_i, fact_use}
 use denote.Ref.{Bor}
+use denote.Triple.Clauses.{Ended, Clauses, AtExit}
+use denote.Triple.Entry.{Args, Res}
 use Rattle.told.specs.Told.{Told, refused, says}
 use Rattle.told.proofs.ToldLaws.{same_answer}
 use Rattle.told.specs.Alone.{NoSecondAnswer}
@@ -14,14 +23,13 @@ use Rattle.reader.specs.declared.FileReader.{FileReader}
 use Rattle.reader.specs.declared.Counts.{Counts}
 use Rattle.reader.specs.declared.Counts.TheVariants.{Counted, Refused as Uncounted}
 use Rattle.reader.specs.Reading.{told, told_counts, read_says, read_keeps}
+use Rattle.reader.specs.File.{trailer}
 use Rattle.reader.proofs.read.Reads as read
 use Rattle.reader.proofs.read.Kinds as read-kinds
 use Rattle.reader.proofs.read_at.Reads as read_at
 use Rattle.reader.proofs.read_at.Kinds as read-at-kinds
-use Rattle.reader.proofs.read_from.Reads as read-from
-use Rattle.reader.proofs.read_from.Kinds as read-from-kinds
-use Rattle.reader.proofs.begin.Reads as begin
-use Rattle.reader.proofs.begin.Kinds as begin-kinds
+use Rattle.reader.specs.contracts.read_from as read-from
+use Rattle.reader.specs.contracts.begin as begin
 use Rattle.reader.proofs.board_counts.Reads as board-counts
 use Rattle.reader.proofs.board_counts.Kinds as board-counts-kinds
 use Rattle.reader.proofs.trailer_place.Reads as trailer-place
@@ -45,7 +53,10 @@ same_parts o b = rw (o, b)
 same_reading : (x y : Reading) → told x.outcome x.board ≡ told y.outcome y.board → x.board ≡ y.board → x ≡ y
 same_reading x y t b = same_parts (sym (outcome_back x.outcome x.board) ∙ ap outcome_of t ∙ outcome_back y.outcome y.board) b
 
--- what the contracts say of a file that was read
+-- what the contracts say: of a reader that begins, and of a file that was read
+abbrev pub Begun : Bor (List ℕ) → FileReader → Type 0
+Begun s d = (d.file ≡ s) × (d.place ≡ trailer s.now)
+
 abbrev pub IsRead : List ℕ → Reading → Type 0
 IsRead file r = (told r.outcome r.board ≡ read_says file) × (r.board ≡ read_keeps file)
 
@@ -58,14 +69,27 @@ read_alone κs a x y e f p q = (one_reading _ x y p q, refl)
 pub read_at_alone : NoSecondAnswer 1 read-at-kinds.ps read-at-kinds.r read_at.Post (λ κs e. tt {0})
 read_at_alone κs a x y e f p q = (one_reading _ x y p q, refl)
 
-pub read_from_alone : NoSecondAnswer 1 read-from-kinds.ps read-from-kinds.r read-from.Post (λ κs e. tt {0})
-read_from_alone κs a x y e f p q = (same_reading x y (p.0 ∙ sym q.0) (p.1 ∙ sym q.1), refl)
+-- the same of a function over a reader, on its clauses as the logic has them: two answers that both meet them are the same
+abbrev NoSecondResult : {M : Type 1} (𝓤 : Ura M) (T : Ended) → Clauses 𝓤 T → Type 1
+NoSecondResult 𝓤 T c =
+    (κs : Lfts T.signature.lifetimes) (a : Args T.signature κs) (g : (c κs a).ghost) (x y : Res T.signature κs) (e f : AtExit T κs)
+    → ent 𝓤 (sep 𝓤 ((c κs a).ensures g x e) ((c κs a).ensures g y f)) (fact 𝓤 (x ≡ y))
+
+from_both : {M : Type 1} (𝓤 : Ura M) (P Q : SProp 𝓤) (φ ψ χ : Type 0) → ent 𝓤 P (fact 𝓤 φ) → ent 𝓤 Q (fact 𝓤 ψ) → (φ → ψ → χ) → ent 𝓤 (sep 𝓤 P Q) (fact 𝓤 χ)
+from_both 𝓤 P Q φ ψ χ p q k = fact_use 𝓤 φ (via 𝓤 P (fst∗ 𝓤 P Q) p) (λ x. fact_use 𝓤 ψ (via 𝓤 Q (snd∗ 𝓤 P Q) q) (λ y. fact_i 𝓤 χ _ (k x y)))
+
+both : {M : Type 1} (𝓤 : Ura M) (φ ψ : Type 0) → ent 𝓤 (sep 𝓤 (fact 𝓤 φ) (fact 𝓤 ψ)) (fact 𝓤 (φ × ψ))
+both 𝓤 φ ψ = fact_use 𝓤 φ (fst∗ 𝓤 (fact 𝓤 φ) (fact 𝓤 ψ)) (λ x. fact_use 𝓤 ψ (snd∗ 𝓤 (fact 𝓤 φ) (fact 𝓤 ψ)) (λ y. fact_i 𝓤 (φ × ψ) _ (x, y)))
+
+pub read_from_alone : {M : Type 1} {𝓤 : Ura M} (𝓛 : Logic 𝓤) (mem : Memory → SProp 𝓤) (run : Routine → Fun 𝓤) → NoSecondResult 𝓤 read-from.ended (read-from.clauses 𝓛 mem run)
+read_from_alone {𝓤 = 𝓤} 𝓛 mem run κs a g x y e f = from_both 𝓤 _ _ _ _ (x ≡ y) (both 𝓤 _ _) (both 𝓤 _ _) (λ p q. same_reading x y (p.0 ∙ sym q.0) (p.1 ∙ sym q.1))
 
 same_place : {s t : Bor (List ℕ)} {m n : ℕ} → s ≡ t → m ≡ n → ◌≡◌ {A = FileReader} (record { file = s; place = m }) (record { file = t; place = n })
 same_place s m = rw (s, m)
 
-pub begin_alone : NoSecondAnswer 1 begin-kinds.ps begin-kinds.r begin.Post (λ κs e. tt {0})
-begin_alone κs a x y e f p q = (same_place (p.0 ∙ sym q.0) (p.1 ∙ sym q.1), refl)
+pub begin_alone : {M : Type 1} {𝓤 : Ura M} (𝓛 : Logic 𝓤) (mem : Memory → SProp 𝓤) (run : Routine → Fun 𝓤) → NoSecondResult 𝓤 begin.ended (begin.clauses 𝓛 mem run)
+begin_alone {𝓤 = 𝓤} 𝓛 mem run κs a g x y e f =
+    from_both 𝓤 _ _ (Begun a.0 x) (Begun a.0 y) (x ≡ y) (id⊢ 𝓤 _) (id⊢ 𝓤 _) (λ p q. same_place (p.0 ∙ sym q.0) (p.1 ∙ sym q.1))
 
 counts_of : Told (ℕ × ℕ) → Counts
 counts_of (refused number) = Uncounted number
