@@ -50,7 +50,8 @@ pub fn arg<E: Env>(rt: &E, i: usize, buffer: &mut [u8]) -> usize
 // Opens the file of that name for reading. Where it can't be opened, a line on standard error says why, and there is none.
 pub fn open_read<R: Files + Eprint>(rt: &R, name: &[u8]) -> io::Result<Option<R::File>> {
     let Ok(path) = str::from_utf8(name) else {
-        return Err(io::Error::from(io::ErrorKind::InvalidFilename));
+        eprintln!(rt; "a file name that is no text: not opened")?;
+        return Ok(None);
     };
     match fs::open(rt, path) {
         Ok(file) => Ok(Some(file)),
