@@ -5,7 +5,7 @@ use denote.Triple.Clauses.{AtExit}
 use borrow.Fn.Kinds.{ParamKind, ResultKind, Dens, res_t, ended_of, Out}
 
 -- Two ends of a call on the same arguments that both meet its `ensures`, Post, have the same answer and the same contents of the lent rooms.
--- `rooms` picks the rooms from the parameters at exit: `λ κs e. now e.1.0` is the second parameter's, and `λ κs e. tt {0}` is none.
+-- `rooms` picks the rooms from the parameters at exit: `λ κs e. e.1.0.now` is the second parameter's, and `λ κs e. tt {0}` is none.
 abbrev pub NoSecondAnswer : (n : ℕ) (ps : List (ParamKind n)) (r : ResultKind n) → Out n ps r → {B : Type 0} → ((κs : Lfts n) → AtExit (ended_of n ps r) κs → B) → Type 0
 NoSecondAnswer n ps r Post {B} rooms =
     (κs : Lfts n) (a : Dens κs ps) (x y : (res_t r κs).Denot) (e f : AtExit (ended_of n ps r) κs)
