@@ -8,7 +8,7 @@ use lines::{cells, ended, refused, text};
 use search::{Answer, search};
 use sizes::{BOARD_CELLS, FILE, STACK, TABLE};
 use std::io;
-use std::io::{BufWriter, Write};
+use std::io::Write;
 
 // A byte more than the longest file: an input that fills it is too long, and refused as such.
 const INPUT: usize = FILE + 1;
@@ -21,9 +21,8 @@ fn main(rt: HostRuntime) -> io::Result<()> {
     let n = arg(&rt, 1, &mut word);
     let mut input = [0u8; INPUT];
     let size = read_full(&mut rt.reader(), &mut input)?;
-    let mut out = BufWriter::new(rt.alloc(), io::writer(&rt))?;
-    finish(&mut out, &input[..size], number_of(&word[..n]))?;
-    out.flush()
+    let mut out = io::writer(&rt);
+    finish(&mut out, &input[..size], number_of(&word[..n]))
 }
 
 fn finish<W: Write>(out: &mut W, file: &[u8], given: u64) -> io::Result<()> {

@@ -10,7 +10,7 @@ use reader::read;
 use settle::Tally;
 use sizes::{BOARD_CELLS, BOARD_ROWS, FILE, ROW_CELLS, TABLE};
 use std::io;
-use std::io::{BufWriter, Write};
+use std::io::Write;
 
 // A byte more than the longest file: an input that fills it is too long, and refused as such.
 const INPUT: usize = FILE + 1;
@@ -18,9 +18,8 @@ const INPUT: usize = FILE + 1;
 fn main(rt: HostRuntime) -> io::Result<()> {
     let mut input = [0u8; INPUT];
     let n = read_full(&mut rt.reader(), &mut input)?;
-    let mut out = BufWriter::new(rt.alloc(), io::writer(&rt))?;
-    report(&mut out, &input[..n])?;
-    out.flush()
+    let mut out = io::writer(&rt);
+    report(&mut out, &input[..n])
 }
 
 fn report<W: Write>(out: &mut W, file: &[u8]) -> io::Result<()> {

@@ -6,7 +6,7 @@ use inputs::{arg, arg_count, open_read, read_full};
 use reader::{Counts, Outcome};
 use sizes::{BOARD_CELLS, BOARD_ROWS, FILE, HIGHEST, ROW_CELLS};
 use std::io;
-use std::io::{BufWriter, Write};
+use std::io::Write;
 use std::rt::{Env, Files};
 use writer::Writing;
 
@@ -238,10 +238,9 @@ fn try_records<W: Write>(out: &mut W) -> io::Result<()> {
 }
 
 fn main(rt: HostRuntime) -> io::Result<()> {
-    let mut out = BufWriter::new(rt.alloc(), io::writer(&rt))?;
+    let mut out = io::writer(&rt);
     for i in 1..arg_count(&rt) {
         try_name(&rt, &mut out, i)?;
     }
-    try_records(&mut out)?;
-    out.flush()
+    try_records(&mut out)
 }

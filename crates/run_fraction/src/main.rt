@@ -4,7 +4,7 @@
 use fraction::inner::share;
 use fraction::{Ranking, rank};
 use std::io;
-use std::io::{BufWriter, Write};
+use std::io::Write;
 
 // 2 to the 50th, the most that a total can be.
 const N: u64 = 1125899906842624;
@@ -37,9 +37,8 @@ fn show<W: Write>(out: &mut W, c1: u64, t1: u64, c2: u64, t2: u64) -> io::Result
 }
 
 fn main(rt: HostRuntime) -> io::Result<()> {
-    let mut out = BufWriter::new(rt.alloc(), io::writer(&rt))?;
-    show_all(&mut out)?;
-    out.flush()
+    let mut out = io::writer(&rt);
+    show_all(&mut out)
 }
 
 fn show_all<W: Write>(out: &mut W) -> io::Result<()> {

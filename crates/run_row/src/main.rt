@@ -8,16 +8,15 @@ use ask::{count, strike, total, within};
 use print::entry;
 use sizes::{HIGHEST, ROW_CELLS, SUMS, TABLE, VALUES};
 use std::io;
-use std::io::{BufWriter, Write};
+use std::io::Write;
 
 const FULL: u32 = 4294967295;
 
 const LARGEST: usize = 18446744073709551615;
 
 fn main(rt: HostRuntime) -> io::Result<()> {
-    let mut out = BufWriter::new(rt.alloc(), io::writer(&rt))?;
-    ask_all(&mut out)?;
-    out.flush()
+    let mut out = io::writer(&rt);
+    ask_all(&mut out)
 }
 
 fn ask_all<W: Write>(out: &mut W) -> io::Result<()> {

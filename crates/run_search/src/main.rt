@@ -12,7 +12,7 @@ use lines::{ended, named, text, values};
 use search::{Answer, search};
 use sizes::{BOARD_CELLS, FILE, STACK, TABLE};
 use std::io;
-use std::io::{BufWriter, Write};
+use std::io::Write;
 use std::rt::{Env, Files};
 
 // A byte more than the longest file, so that what is too long shows.
@@ -27,13 +27,12 @@ const MORE: usize = 4;
 const WORD: usize = 4096;
 
 fn main(rt: HostRuntime) -> io::Result<()> {
-    let mut out = BufWriter::new(rt.alloc(), io::writer(&rt))?;
+    let mut out = io::writer(&rt);
     for pair in 0..arg_count(&rt) / 2 {
         try_pair(&rt, &mut out, 2 * pair + 1)?;
     }
     try_rooms(&rt, &mut out, b"example")?;
-    try_rooms(&rt, &mut out, b"refused-7")?;
-    out.flush()
+    try_rooms(&rt, &mut out, b"refused-7")
 }
 
 // Searches the file that argument i names, with the number of choices that the next one spells.

@@ -12,7 +12,7 @@ use settle::Tally;
 use settle::inner::settle;
 use sizes::BOARD_CELLS;
 use std::io;
-use std::io::{BufWriter, Write};
+use std::io::Write;
 
 fn print<W: Write>(out: &mut W, text: &[u8]) -> io::Result<()> {
     out.write_all(text)
@@ -63,9 +63,8 @@ fn show<W: Write>(out: &mut W, name: &[u8], board: Board) -> io::Result<()> {
 }
 
 fn main(rt: HostRuntime) -> io::Result<()> {
-    let mut out = BufWriter::new(rt.alloc(), io::writer(&rt))?;
-    show_all(&mut out)?;
-    out.flush()
+    let mut out = io::writer(&rt);
+    show_all(&mut out)
 }
 
 fn show_all<W: Write>(out: &mut W) -> io::Result<()> {
