@@ -2,7 +2,10 @@
 #![tactic(auto)]
 
 ghost use Rattle.std.specs.Prelude.{◌≡◌};
+ghost use Rattle.told.specs.Told.{refusal_in};
 ghost use Rattle.sizes.specs.Sizes.{length_refuses, limits_refuse};
+
+use told::Refusal;
 
 pub const VALUES: usize = 32;
 
@@ -22,28 +25,22 @@ pub const STACK: usize = 4096;
 
 pub const FILE: usize = 1062;
 
-// 1, or 0 where a row may have this many cells.
-pub fn length_refuses(cells: usize) -> u8
-    ensures { result ≡ length_refuses cells }
+// Whether a row may have this many cells: no, with 1, or yes.
+pub fn length_refuses(cells: usize) -> Result<(), Refusal>
+    ensures { refusal_in result ≡ length_refuses cells }
 {
-    if cells == 0 {
-        return 1;
+    if cells == 0 || ROW_CELLS < cells {
+        return Err(Refusal::Length);
     }
-    if ROW_CELLS < cells {
-        return 1;
-    }
-    0
+    Ok(())
 }
 
-// 2, or 0 where a row may have these limits.
-pub fn limits_refuse(low: usize, high: usize) -> u8
-    ensures { result ≡ limits_refuse low high }
+// Whether a row may have these limits: no, with 2, or yes.
+pub fn limits_refuse(low: usize, high: usize) -> Result<(), Refusal>
+    ensures { refusal_in result ≡ limits_refuse low high }
 {
-    if high < low {
-        return 2;
+    if high < low || HIGHEST < high {
+        return Err(Refusal::Limits);
     }
-    if HIGHEST < high {
-        return 2;
-    }
-    0
+    Ok(())
 }

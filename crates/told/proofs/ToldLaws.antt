@@ -1,12 +1,85 @@
 -- Laws of answers and of refusals in their order. Assumes nothing.
-use Rattle.std.specs.Prelude.{◌≡◌, refl, Bool, true, false, not, ℕ, zero, suc, ◌+◌, ◌-◌, ◌≤◌, ◌<◌, ◌≢◌, eqb}
+use Rattle.std.specs.Prelude.{◌≡◌, refl, Bool, true, false, not, cond, ℕ, zero, suc, ◌+◌, ◌-◌, ◌≤◌, ◌<◌, ◌≢◌, eqb, Result, Ok, Err}
 use Rattle.std.proofs.Common.{sym, ap, ◌∙◌, zero-add, suc-add, add-one, arith, eqb-true, eq-eqb, ne_eqb, le-ltb, lt-ltb, le-leb}
 use Rattle.std.proofs.lemmas.Bool.{not-false, eqb-false, lt-leb}
-use Rattle.told.specs.Told.{Told, refused, says, when, first, firsts, answer, leave}
+use Rattle.told.specs.declared.Refusal.{Refusal}
+use Rattle.told.specs.declared.Refusal.TheVariants.{Length, Limits, Table, Place, Fraction, Size, Mark, Counts, Start, End, Cell, Twice, Room, WriterRoom, Stack}
+use Rattle.told.specs.Told.{Told, refused, says, when, first, firsts, answer, leave, number_of, told, refusal_in}
 
 -- two answers that tell the same are the same, where the telling can be undone
 pub same_answer : {A B : Type 0} (told : A → B) (back : B → A) → ((a : A) → back (told a) ≡ a) → {r s : A} {x : B} → told r ≡ x → told s ≡ x → r ≡ s
 same_answer told back undone {r} {s} p q = sym (undone r) ∙ ap back (p ∙ sym q) ∙ undone s
+
+-- a refusal is read back from its number, so no two have the same, and none has 0
+refusal_from : ℕ → Refusal
+refusal_from n = cond (eqb n 1) Length (cond (eqb n 2) Limits (cond (eqb n 3) Table (cond (eqb n 4) Place (cond (eqb n 5) Fraction (cond (eqb n 6) Size (cond (eqb n 7) Mark (cond (eqb n 8) Counts (cond (eqb n 9) Start (cond (eqb n 10) End (cond (eqb n 11) Cell (cond (eqb n 12) Twice (cond (eqb n 13) Room (cond (eqb n 14) WriterRoom Stack)))))))))))))
+
+refusal_back : (e : Refusal) → refusal_from (number_of e) ≡ e
+unfolding refusal_from
+refusal_back Length = refl
+refusal_back Limits = refl
+refusal_back Table = refl
+refusal_back Place = refl
+refusal_back Fraction = refl
+refusal_back Size = refl
+refusal_back Mark = refl
+refusal_back Counts = refl
+refusal_back Start = refl
+refusal_back End = refl
+refusal_back Cell = refl
+refusal_back Twice = refl
+refusal_back Room = refl
+refusal_back WriterRoom = refl
+refusal_back Stack = refl
+
+pub some_number : (e : Refusal) → number_of e ≡ 0 → ⊥
+some_number Length e = omega (arith, e)
+some_number Limits e = omega (arith, e)
+some_number Table e = omega (arith, e)
+some_number Place e = omega (arith, e)
+some_number Fraction e = omega (arith, e)
+some_number Size e = omega (arith, e)
+some_number Mark e = omega (arith, e)
+some_number Counts e = omega (arith, e)
+some_number Start e = omega (arith, e)
+some_number End e = omega (arith, e)
+some_number Cell e = omega (arith, e)
+some_number Twice e = omega (arith, e)
+some_number Room e = omega (arith, e)
+some_number WriterRoom e = omega (arith, e)
+some_number Stack e = omega (arith, e)
+
+-- an answer is read back from what it says, and a test from its number
+answer_from : {A : Type 0} → Told A → Result A Refusal
+answer_from (refused n) = Err (refusal_from n)
+answer_from (says a) = Ok a
+
+answer_back : {A : Type 0} (r : Result A Refusal) → answer_from (told r) ≡ r
+unfolding answer_from
+answer_back (Ok a) = refl
+answer_back (Err e) = ap (λ (z : Refusal). Err z) (refusal_back e)
+
+pub same_told : {A : Type 0} {r s : Result A Refusal} {x : Told A} → told r ≡ x → told s ≡ x → r ≡ s
+same_told = same_answer told answer_from answer_back
+
+test_from : ℕ → Result (Unit {0}) Refusal
+test_from n = cond (eqb n 0) (Ok tt) (Err (refusal_from n))
+
+test_back : (r : Result (Unit {0}) Refusal) → test_from (refusal_in r) ≡ r
+unfolding test_from
+test_back (Ok a) = refl
+test_back (Err e) = rw (ne_eqb (number_of e) 0 (some_number e)) (ap (λ (z : Refusal). Err z) (refusal_back e))
+
+pub same_test : {r s : Result (Unit {0}) Refusal} {n : ℕ} → refusal_in r ≡ n → refusal_in s ≡ n → r ≡ s
+same_test = same_answer refusal_in test_from test_back
+
+-- where another function made the test: it refused, or it did not and the rest decides
+pub first_err : (e : Refusal) (a b : ℕ) → number_of e ≡ a → number_of e ≡ first a b
+first_err e zero b h = absurd (some_number e h)
+first_err e (suc a) b h = h
+
+pub first_ok : (a b x : ℕ) → 0 ≡ a → x ≡ b → x ≡ first a b
+first_ok a b x h q = rw (← h) q
 
 -- a call whose refusal test answered y says y and leaves its rooms, or, where y is 0, does what it is for
 module _ {A : Type 0} (y refusal : ℕ) (e : y ≡ refusal) where

@@ -1,5 +1,7 @@
 -- What an answer says, and refusals in their order. A refusal is its number; 0 is none. Definitions only.
-use Rattle.std.specs.Prelude.{ℕ, zero, suc, Bool, true, false}
+use Rattle.std.specs.Prelude.{ℕ, zero, suc, Bool, true, false, Result, Ok, Err}
+use Rattle.told.specs.declared.Refusal.{Refusal}
+use Rattle.told.specs.declared.Refusal.TheVariants.{Length, Limits, Table, Place, Fraction, Size, Mark, Counts, Start, End, Cell, Twice, Room, WriterRoom, Stack}
 
 -- what an answer says: the number for no, or what was asked for
 pub data Told (A : Type 0) : Type 0 where
@@ -30,3 +32,31 @@ answer (suc n) a = refused (suc n)
 abbrev pub leave : {A : Type 0} → ℕ → A → A → A
 leave zero held new = new
 leave (suc n) held new = held
+
+-- document 01's number for every refusal
+abbrev pub number_of : Refusal → ℕ
+number_of Length = 1
+number_of Limits = 2
+number_of Table = 3
+number_of Place = 4
+number_of Fraction = 5
+number_of Size = 6
+number_of Mark = 7
+number_of Counts = 8
+number_of Start = 9
+number_of End = 10
+number_of Cell = 11
+number_of Twice = 12
+number_of Room = 13
+number_of WriterRoom = 14
+number_of Stack = 15
+
+-- what a call's answer says: document 01's number for no, or the value
+abbrev pub told : {A : Type 0} → Result A Refusal → Told A
+told (Ok a) = says a
+told (Err e) = refused (number_of e)
+
+-- the number for no, or 0, of a test for refusals, or of a call whatever its value
+abbrev pub refusal_in : {A : Type 0} → Result A Refusal → ℕ
+refusal_in (Ok a) = 0
+refusal_in (Err e) = number_of e
