@@ -1,15 +1,13 @@
--- What is known of a row that is not refused, and that an answer is read back from what it tells. Assumes nothing.
+-- What is known of a row that is not refused. Assumes nothing.
 use Rattle.std.specs.Prelude.{◌≡◌, refl, not, List, ℕ, ◌<◌, eqb, ltb, leb, length}
 use Rattle.std.proofs.Common.{ap₂, eqb-true, ltb-false, leb-false}
 use Rattle.std.proofs.lemmas.Bool.{not-false}
-use Rattle.told.specs.Told.{Told, refused, says, when}
+use Rattle.told.specs.Told.{when}
 use Rattle.told.proofs.ToldLaws.{neither, not_held}
 use Rattle.sizes.specs.Sizes.{values, table_size, length_refuses, limits_refuse}
 use Rattle.sizes.specs.SizeLaws.{length_sound, limits_sound}
 use Rattle.layers.specs.Steps.{Fillable}
-use Rattle.row.specs.declared.Answer.{Answer}
-use Rattle.row.specs.declared.Answer.TheVariants.{Number, Refused}
-use Rattle.row.specs.Answers.{told, lists_refuse, place_refuses, row_refuses, tables}
+use Rattle.row.specs.Answers.{lists_refuse, place_refuses, row_refuses, tables}
 
 -- a row and tables that 1, 2 and 3 let pass
 pub row_sound : (ws ds : List ℕ) (low high : ℕ) (forward backward : List ℕ) → row_refuses ws ds low high forward backward ≡ 0
@@ -38,12 +36,3 @@ place_sound cells place value e =
 -- tables are equal part by part
 pub same_tables : (f g h k : List ℕ) → f ≡ g → h ≡ k → tables f h ≡ tables g k
 same_tables f g h k p q = ap₂ tables p q
-
--- an answer is read back from what it tells
-abbrev pub answer_of : Told ℕ → Answer
-answer_of (says n) = Number n
-answer_of (refused n) = Refused n
-
-pub answer_back : (r : Answer) → answer_of (told r) ≡ r
-answer_back (Number n) = refl
-answer_back (Refused n) = refl

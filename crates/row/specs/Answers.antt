@@ -1,18 +1,11 @@
 -- What the row calls refuse, what they say, and what they leave in the lent rooms. Definitions only.
 -- ws are a row's weights, ds its domains at entry, forward and backward the two tables at entry.
 use Rattle.std.specs.Prelude.{not, List, ℕ, eqb, ltb, leb, length}
-use Rattle.told.specs.Told.{Told, refused, says, when, first, answer, leave}
+use Rattle.told.specs.Told.{Told, when, first, answer, leave}
 use Rattle.sizes.specs.Sizes.{values, table_size, length_refuses, limits_refuse}
 use Rattle.listing.specs.Listing.{onto}
 use Rattle.counting.specs.Counting.{total, count, strike, struck}
 use Rattle.layers.specs.Tables.{forward_table, backward_table}
-use Rattle.row.specs.declared.Answer.{Answer}
-use Rattle.row.specs.declared.Answer.TheVariants.{Number, Refused}
-
--- document 01's number for every case of the answer
-abbrev pub told : Answer → Told ℕ
-told (Number n) = says n
-told (Refused n) = refused n
 
 -- ---- refusals, by the lengths of weights, domains and tables
 

@@ -66,12 +66,10 @@ pub fn strike(
     ensures domains_after { domains.new ≡ strike weights.now domains.old low high }
 {
     let mut struck: u64 = 0;
-    let mut i: usize = 0;
-    while i < domains.len() {
+    for i in 0..domains.len() {
         let cell = strike_cell(forward, backward, i, weights[i], domains[i]);
         domains[i] = cell.kept;
         struck += cell.gone;
-        i += 1;
     }
     struck
 }
@@ -91,12 +89,10 @@ fn strike_cell(forward: &[u64], backward: &[u64], p: usize, w: u8, d: u32) -> Ce
 {
     let mut kept: u32 = 0;
     let mut gone: u64 = 0;
-    let mut v: usize = 0;
-    while v < VALUES {
+    for v in 0..VALUES {
         let value = strike_value(forward, backward, p, w, d, v);
         kept += value.kept;
         gone += value.gone;
-        v += 1;
     }
     Cell { kept, gone }
 }
@@ -142,10 +138,8 @@ fn ways(forward: &[u64], backward: &[u64], p: usize, s: usize) -> u64
     let after = before + SUMS + s;
     let n = SUMS - s;
     let mut sum: u64 = 0;
-    let mut b: usize = 0;
-    while b < n {
+    for b in 0..n {
         sum += forward[before + b] * backward[after + b];
-        b += 1;
     }
     sum
 }

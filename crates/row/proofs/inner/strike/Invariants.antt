@@ -5,7 +5,4 @@ use Rattle.counting.specs.Steps.{StruckTo}
 use Rattle.row.proofs.inner.strike.Given as goal
 
 abbrev pub invariant-loop-i : goal.invariant-loop-i
-invariant-loop-i l = (l.i ≤ length l.initial.domains) × StruckTo l.weights l.initial.domains l.low l.high l.domains l.struck l.i
-
-abbrev pub decreases-loop-i : goal.decreases-loop-i
-decreases-loop-i l = length l.initial.domains - l.i
+invariant-loop-i l = StruckTo l.weights l.initial.domains l.low l.high l.domains l.struck l.i

@@ -7,7 +7,4 @@ use Rattle.row.specs.Cells.{ways, keeps, loses}
 use Rattle.row.proofs.inner.strike_cell.Given as goal
 
 abbrev pub invariant-loop-v : goal.invariant-loop-v
-invariant-loop-v l = (l.v ≤ values) × (l.kept ≡ sum_over (keeps l.d (λ u. ways l.forward l.backward l.p (l.w * u))) (below l.v)) × (l.gone ≡ sum_over (loses l.d (λ u. ways l.forward l.backward l.p (l.w * u))) (below l.v))
-
-abbrev pub decreases-loop-v : goal.decreases-loop-v
-decreases-loop-v l = values - l.v
+invariant-loop-v l = (l.kept ≡ sum_over (keeps l.d (λ u. ways l.forward l.backward l.p (l.w * u))) (below l.v)) × (l.gone ≡ sum_over (loses l.d (λ u. ways l.forward l.backward l.p (l.w * u))) (below l.v))

@@ -7,7 +7,4 @@ use Rattle.row.specs.Cells.{through}
 use Rattle.row.proofs.inner.ways.Given as goal
 
 abbrev pub invariant-loop-b : goal.invariant-loop-b
-invariant-loop-b l = (l.b ≤ sums - l.s) × (l.sum ≡ sum_over (through l.forward l.backward l.p l.s) (below l.b))
-
-abbrev pub decreases-loop-b : goal.decreases-loop-b
-decreases-loop-b l = l.n - l.b
+invariant-loop-b l = (l.sum ≡ sum_over (through l.forward l.backward l.p l.s) (below l.b))
