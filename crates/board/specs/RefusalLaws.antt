@@ -1,6 +1,8 @@
 -- A board that is not refused is sound, and the same rows and the same boards are refused the same. Assumes nothing.
-use Rattle.std.specs.Prelude.{◌≡◌, List, ℕ, ◌<◌, get_or, eqb, ltb, leb}
-use Rattle.std.proofs.Common.{arith}
+use Rattle.std.specs.Prelude.{◌≡◌, List, ℕ, ◌≤◌, ◌<◌, get_or, take, length, eqb, ltb, leb}
+use Rattle.std.proofs.Common.{arith, ap, ◌∙◌, length-take-le}
+use Rattle.std.proofs.lemmas.List.{get_or-take}
+use Rattle.told.specs.Told.{firsts}
 use borrow.Author.Tests.{eqb-false, ltb-false, leb-false}
 use Rattle.told.specs.Told.{when}
 use Rattle.told.proofs.ToldLaws.{neither, not_held, firsts_each, firsts_same}
@@ -8,7 +10,7 @@ use Rattle.sizes.specs.Sizes.{board_cells, board_rows, length_refuses, limits_re
 use Rattle.sizes.specs.SizeLaws.{length_sound, limits_sound}
 use Rattle.board.specs.declared.Row.{Row}
 use Rattle.board.specs.declared.Board.{Board}
-use Rattle.board.specs.Board.{row_at, SameRow, SameBoard}
+use Rattle.board.specs.Board.{row_at, blank_row, SameRow, SameBoard}
 use Rattle.board.specs.Sound.{SoundSizes, SoundHead, SoundLine, SoundBoard}
 use Rattle.board.specs.Refusals.{sizes_refuse, head_refuses, unknown_refuses, same_name, repeat_refuses, pair_refuses, pairs_refuse, board_row_refuses, line_refuses, board_refuses}
 
@@ -77,6 +79,16 @@ module _ (cells : ℕ) (a b : List ℕ) (len : ℕ) (same : (k : ℕ) → k < le
   pairs_same : pairs_refuse cells a len ≡ pairs_refuse cells b len
   unfolding pair_refuses
   pairs_same = firsts_same (pair_refuses cells a) (pair_refuses cells b) len (λ k l. rw (same k l, repeat_same k l))
+
+-- the pairs, and the rows, that stand at the front of an array
+pub pairs_front : (cells len : ℕ) (names : List ℕ) → len ≤ length names → pairs_refuse cells (take len names) (length (take len names)) ≡ pairs_refuse cells names len
+pairs_front cells len names h =
+    ap (pairs_refuse cells (take len names)) (length-take-le len names h) ∙ pairs_same cells (take len names) names len (λ k l. get_or-take len names k 0 l)
+
+pub rows_front : (cells rows : ℕ) (lines : List Row) → rows ≤ length lines → firsts (line_refuses cells (take rows lines)) (length (take rows lines)) ≡ firsts (line_refuses cells lines) rows
+rows_front cells rows lines h =
+    ap (firsts (line_refuses cells (take rows lines))) (length-take-le rows lines h)
+    ∙ firsts_same (line_refuses cells (take rows lines)) (line_refuses cells lines) rows (λ i l. ap (board_row_refuses cells) (get_or-take rows lines i blank_row l))
 
 pub row_same : (cells : ℕ) (a b : Row) → SameRow a b → board_row_refuses cells a ≡ board_row_refuses cells b
 unfolding board_row_refuses

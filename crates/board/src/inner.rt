@@ -1,12 +1,12 @@
 // Calls for the floors above: a record of zeros, and what the reader and the writer of a board both refuse.
-ghost use Rattle.std.specs.Prelude.{◌≡◌, ◌<◌, ◌≤◌};
-ghost use Rattle.told.specs.Told.{first, firsts};
-ghost use Rattle.sizes.specs.Sizes.{row_cells, board_rows};
+ghost use Rattle.std.specs.Prelude.{◌≡◌, ◌<◌, length};
+ghost use Rattle.told.specs.Told.{firsts, refusal_in};
 ghost use Rattle.board.specs.Board.{zero_row, zero_board};
-ghost use Rattle.board.specs.Refusals.{sizes_refuse, head_refuses, unknown_refuses, repeat_refuses, pair_refuses, pairs_refuse, line_refuses, board_refuses};
+ghost use Rattle.board.specs.Refusals.{sizes_refuse, head_refuses, unknown_refuses, repeat_refuses, pair_refuses, pairs_refuse, board_row_refuses, line_refuses, board_refuses};
 
 use crate::{Board, Row};
 use sizes::{BOARD_CELLS, BOARD_ROWS, ROW_CELLS, length_refuses, limits_refuse};
+use told::Refusal;
 
 // A row of zeros.
 pub fn zero_row() -> Row
@@ -34,137 +34,98 @@ pub fn zero_board() -> Board
     }
 }
 
-// The first of two refusals.
-pub fn first_of(a: u8, b: u8) -> u8
-    ensures { result ≡ first a b }
+// Whether a board may have this many cells and rows.
+#[tactic(auto, unfolding(crate::specs::Refusals::sizes_refuse))]
+pub fn sizes_refuse(cells: usize, rows: usize) -> Result<(), Refusal>
+    ensures { refusal_in result ≡ sizes_refuse cells rows }
 {
-    if a != 0 {
-        return a;
+    if cells == 0 || BOARD_CELLS < cells || rows == 0 || BOARD_ROWS < rows {
+        return Err(Refusal::Counts);
     }
-    b
+    Ok(())
 }
 
-// 8, or 0.
-pub fn sizes_refuse(cells: usize, rows: usize) -> u8
-    ensures { result ≡ sizes_refuse cells rows }
+// Whether a row may have this length and these limits.
+#[tactic(auto, unfolding(crate::specs::Refusals::head_refuses))]
+pub fn head_refuses(len: usize, low: usize, high: usize) -> Result<(), Refusal>
+    ensures { refusal_in result ≡ head_refuses len low high }
 {
-    if cells == 0 {
-        return 8;
-    }
-    if BOARD_CELLS < cells {
-        return 8;
-    }
-    if rows == 0 {
-        return 8;
-    }
-    if BOARD_ROWS < rows {
-        return 8;
-    }
-    0
+    length_refuses(len)?;
+    limits_refuse(low, high)
 }
 
-// 1, 2, or 0.
-pub fn head_refuses(len: usize, low: usize, high: usize) -> u8
-    ensures { result ≡ head_refuses len low high }
-{
-    let length = length_refuses(len);
-    let limits = limits_refuse(low, high);
-    first_of(length, limits)
-}
-
-// 11, or 0.
-fn unknown_refuses(cells: usize, name: usize) -> u8
-    ensures { result ≡ unknown_refuses cells name }
+// Whether a board of so many cells has the one that a pair names.
+fn unknown_refuses(cells: usize, name: usize) -> Result<(), Refusal>
+    ensures { refusal_in result ≡ unknown_refuses cells name }
 {
     if cells <= name {
-        return 11;
+        return Err(Refusal::Cell);
     }
-    0
+    Ok(())
 }
 
-// 12, or 0.
-fn repeat_refuses(names: [usize; ROW_CELLS], k: usize) -> u8
-    requires { k < row_cells }
-    ensures { result ≡ repeat_refuses names k }
+// Whether no pair before pair k names its cell.
+#[tactic(auto, using(told::proofs::ToldLaws::refusal_loop), unfolding(crate::specs::Refusals::repeat_refuses))]
+fn repeat_refuses(names: &[usize], k: usize) -> Result<(), Refusal>
+    requires { k < length names.now }
+    ensures { refusal_in result ≡ repeat_refuses names.now k }
 {
-    let name = names[k];
-    let mut j = 0;
-    while j < k {
-        if names[j] == name {
-            return 12;
+    for j in 0..k {
+        if names[j] == names[k] {
+            return Err(Refusal::Twice);
         }
-        j += 1;
     }
-    0
+    Ok(())
 }
 
-// 11, 12, or 0, for pair k.
-fn pair_refuses(cells: usize, names: [usize; ROW_CELLS], k: usize) -> u8
-    requires { k < row_cells }
-    ensures { result ≡ pair_refuses cells names k }
+// What pair k is refused for.
+#[tactic(auto, unfolding(crate::specs::Refusals::pair_refuses))]
+fn pair_refuses(cells: usize, names: &[usize], k: usize) -> Result<(), Refusal>
+    requires { k < length names.now }
+    ensures { refusal_in result ≡ pair_refuses cells names.now k }
 {
-    let unknown = unknown_refuses(cells, names[k]);
-    let repeated = repeat_refuses(names, k);
-    first_of(unknown, repeated)
+    unknown_refuses(cells, names[k])?;
+    repeat_refuses(names, k)
 }
 
-// The first refusal of a row's pairs, or 0.
-pub fn pairs_refuse(cells: usize, names: [usize; ROW_CELLS], len: usize) -> u8
-    requires { len ≤ row_cells }
-    ensures { result ≡ pairs_refuse cells names len }
+// The first refusal of a row's pairs.
+#[tactic(auto, using(told::proofs::ToldLaws::refusal_loop))]
+pub fn pairs_refuse(cells: usize, names: &[usize]) -> Result<(), Refusal>
+    ensures { refusal_in result ≡ pairs_refuse cells names.now (length names.now) }
 {
-    let mut k = 0;
-    while k < len {
-        let refusal = pair_refuses(cells, names, k);
-        if refusal != 0 {
-            return refusal;
-        }
-        k += 1;
+    for k in 0..names.len() {
+        pair_refuses(cells, names, k)?;
     }
-    0
+    Ok(())
 }
 
-// The first refusal of row i, or 0.
-fn line_refuses(cells: usize, lines: [Row; BOARD_ROWS], i: usize) -> u8
-    requires { i < board_rows }
-    ensures { result ≡ line_refuses cells lines i }
+// The first refusal of a row.
+#[tactic(auto, unfolding(crate::specs::Refusals::board_row_refuses))]
+fn row_refuses(cells: usize, row: &Row) -> Result<(), Refusal>
+    ensures { refusal_in result ≡ board_row_refuses cells row.now }
 {
-    let row = lines[i];
-    let len = row.len;
-    let refusal = head_refuses(len, row.low, row.high);
-    if refusal != 0 {
-        return refusal;
-    }
-    let names = row.names;
-    pairs_refuse(cells, names, len)
+    head_refuses(row.len, row.low, row.high)?;
+    let names = &row.names[..row.len];
+    pairs_refuse(cells, names)
 }
 
-// The first refusal of the first rows rows, or 0.
-fn lines_refuse(cells: usize, lines: [Row; BOARD_ROWS], rows: usize) -> u8
-    requires { rows ≤ board_rows }
-    ensures { result ≡ firsts (line_refuses cells lines) rows }
+// The first refusal of some rows.
+#[tactic(auto, using(told::proofs::ToldLaws::refusal_loop))]
+fn rows_refuse(cells: usize, rows: &[Row]) -> Result<(), Refusal>
+    ensures { refusal_in result ≡ firsts (line_refuses cells rows.now) (length rows.now) }
 {
-    let mut i = 0;
-    while i < rows {
-        let refusal = line_refuses(cells, lines, i);
-        if refusal != 0 {
-            return refusal;
-        }
-        i += 1;
+    for row in rows {
+        row_refuses(cells, row)?;
     }
-    0
+    Ok(())
 }
 
-// The first refusal of a board, or 0: what a writer tests before it looks at its room.
-pub fn board_refuses(board: Board) -> u8
-    ensures { result ≡ board_refuses board }
+// The first refusal of a board: what a writer tests before it looks at its room.
+#[tactic(auto, unfolding(crate::specs::Refusals::board_refuses))]
+pub fn board_refuses(board: Board) -> Result<(), Refusal>
+    ensures { refusal_in result ≡ board_refuses board }
 {
-    let cells = board.cells;
-    let rows = board.rows;
-    let refusal = sizes_refuse(cells, rows);
-    if refusal != 0 {
-        return refusal;
-    }
-    let lines = board.lines;
-    lines_refuse(cells, lines, rows)
+    sizes_refuse(board.cells, board.rows)?;
+    let rows = &board.lines[..board.rows];
+    rows_refuse(board.cells, rows)
 }

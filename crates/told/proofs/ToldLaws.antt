@@ -204,6 +204,15 @@ firsts_stop f i n (suc x) l e h some = sym (firsts_hit f x i n l e (sym h))
 pub firsts_end : (f : ℕ → ℕ) (i n : ℕ) → i ≤ n → n ≤ i → firsts f i ≡ 0 → 0 ≡ firsts f n
 firsts_end f i n l g e = let m : i ≡ n = omega arith in sym (rw m at e)
 
+-- the same where each test answers a Result: one that refuses, and one more that does not
+pub firsts_err : (f : ℕ → ℕ) (i n : ℕ) (e : Refusal) → i < n → firsts f i ≡ 0 → number_of e ≡ f i → number_of e ≡ firsts f n
+firsts_err f i n e l z h = firsts_stop f i n (number_of e) l z h (some_number e)
+
+pub firsts_ok : (f : ℕ → ℕ) (i : ℕ) → firsts f i ≡ 0 → 0 ≡ f i → firsts f (i + 1) ≡ 0
+firsts_ok f i z h = firsts_next f i 0 z h refl
+
+pub ruleset refusal_loop = (firsts_start, firsts_err, firsts_ok, firsts_end, first_err, first_ok)
+
 -- what an answer that was taken apart says of the refusal
 pub refused_back : {A : Type 0} (n k : ℕ) (a : A) → refused k ≡ answer n a → (k ≡ n) × (k ≡ 0 → ⊥)
 refused_back zero k a e = let z : ◌≡◌ {A = ℕ} 0 1 = cc in absurd (omega arith)

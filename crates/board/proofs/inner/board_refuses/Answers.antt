@@ -1,19 +1,26 @@
--- `board::inner::board_refuses` meets its contract: it is refused by its sizes, or by its rows, and then their number is known. Assumes nothing.
-use mathlib.Core.Path.{sym, ◌∙◌}
-use Rattle.told.proofs.ToldLaws.{past_call, at_call}
+-- `board::inner::board_refuses` meets its contract: sizes that are not refused say how many rows there are. Assumes nothing.
+use mathlib.Core.Path.{◌≡◌, sym, ◌∙◌}
+use Prim.Native.Nat.{◌≤◌}
+use native.Mathlib.Omega.{arith}
+use borrow.Author.Rules.{rules}
+use lib.ListN.{length}
+use Rattle.sizes.specs.Sizes.{board_rows}
+use Rattle.told.proofs.ToldLaws.{first_ok}
 use Rattle.board.specs.Refusals.{board_refuses}
-use Rattle.board.specs.RefusalLaws.{sizes_sound}
+use Rattle.board.specs.RefusalLaws.{sizes_sound, rows_front}
 use Rattle.board.proofs.inner.board_refuses.Goals as goal
+use Rattle.board.proofs.inner.board_refuses.Goals.{In_ok-sizes_refuse}
 
-pub returns-then-refusal-ne0 : goal.returns-then-refusal-ne0
-unfolding board_refuses
-returns-then-refusal-ne0 c = at_call _ _ _ c.sizes_refuse-refusal.ensures c.if-refusal-ne0.true
+few : (c : In_ok-sizes_refuse) → c.args.board.rows ≤ board_rows
+few c = (sizes_sound _ _ (sym c.in_ok-sizes_refuse.ensures)).rows_most
 
-pub lines_refuse-requires : goal.lines_refuse-requires
-lines_refuse-requires c =
-    (sizes_sound _ _ (sym c.sizes_refuse-refusal.ensures ∙ c.if-refusal-ne0.false)).rows_most
+pub slice_bounds-rows-end : goal.slice_bounds-rows-end
+slice_bounds-rows-end c = few (goal.at.slice_bounds-rows-end c).In_ok-sizes_refuse
 
 pub returns : goal.returns
 unfolding board_refuses
 returns c =
-    past_call _ _ _ _ c.sizes_refuse-refusal.ensures c.if-refusal-ne0.false c.lines_refuse.ensures
+    let board = c.args.board in
+    let all : length board.lines ≡ board_rows = search rules in
+    let fits : board.rows ≤ length board.lines = omega (arith, few (goal.at.returns c).In_ok-sizes_refuse) in
+    first_ok _ _ _ c.in_ok-sizes_refuse.ensures (c.rows_refuse.ensures ∙ rows_front board.cells board.rows board.lines fits)

@@ -1,12 +1,8 @@
 -- `board::inner::pairs_refuse` meets its contract: the loop has passed pairs that are not refused. Assumes nothing.
-use Prim.Native.Nat.{◌-◌, ◌≤◌}
 use mathlib.Core.Path.{◌≡◌}
 use Rattle.told.specs.Told.{firsts}
 use Rattle.board.specs.Refusals.{pair_refuses}
 use Rattle.board.proofs.inner.pairs_refuse.Given as goal
 
 abbrev pub invariant-loop-k : goal.invariant-loop-k
-invariant-loop-k l = (l.k ≤ l.len) × (firsts (pair_refuses l.cells l.names) l.k ≡ 0)
-
-abbrev pub decreases-loop-k : goal.decreases-loop-k
-decreases-loop-k l = l.len - l.k
+invariant-loop-k l = firsts (pair_refuses l.cells l.names) l.k ≡ 0
