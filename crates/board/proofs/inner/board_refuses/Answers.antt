@@ -14,8 +14,8 @@ use Rattle.board.proofs.inner.board_refuses.Goals.{In_ok-sizes_refuse}
 few : (c : In_ok-sizes_refuse) → c.args.board.rows ≤ board_rows
 few c = (sizes_sound _ _ (sym c.in_ok-sizes_refuse.ensures)).rows_most
 
-pub shared_ref_as_front-rows : goal.slice_bounds-rows-end
-shared_ref_as_front-rows c = few (goal.at.slice_bounds-rows-end c).In_ok-sizes_refuse
+pub shared_ref_as_front-rows : goal.shared_ref_as_front-rows
+shared_ref_as_front-rows c = few (goal.at.shared_ref_as_front-rows c).In_ok-sizes_refuse
 
 pub returns : goal.returns
 unfolding board_refuses

@@ -14,8 +14,8 @@ use Rattle.board.proofs.inner.row_refuses.Goals.{In_ok-head_refuses}
 short : (c : In_ok-head_refuses) → c.args.row.now.len ≤ row_cells
 short c = (head_sound _ _ _ (sym c.in_ok-head_refuses.ensures)).most
 
-pub shared_ref_as_front-names : goal.slice_bounds-names-end
-shared_ref_as_front-names c = short (goal.at.slice_bounds-names-end c).In_ok-head_refuses
+pub shared_ref_as_front-names : goal.shared_ref_as_front-names
+shared_ref_as_front-names c = short (goal.at.shared_ref_as_front-names c).In_ok-head_refuses
 
 pub returns : goal.returns
 unfolding board_row_refuses
