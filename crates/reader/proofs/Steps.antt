@@ -1,13 +1,16 @@
 -- What the reader's loops know at each step, and the records that they make. Assumes nothing.
-use mathlib.Core.Path.{◌≡◌, refl, ap, ◌∙◌}
+use mathlib.Core.Path.{◌≡◌, ap, ◌∙◌}
 use mathlib.Core.List.{List}
+use lib.ListN.{length, take}
 use Prim.Native.Nat.{ℕ, ◌+◌, ◌*◌, ◌≤◌, ◌<◌}
 use native.Mathlib.Numerals.{add-one}
 use native.Mathlib.Omega.{arith}
-use Rattle.told.specs.Told.{firsts}
-use Rattle.told.proofs.ToldLaws.{firsts_stop, firsts_end, past_call, at_call}
+use Rattle.told.specs.declared.Refusal.{Refusal}
+use Rattle.told.specs.Told.{firsts, number_of}
+use Rattle.told.proofs.ToldLaws.{firsts_err, firsts_end, first_err, first_ok}
 use Rattle.sizes.specs.Sizes.{row_cells, board_cells}
 use Rattle.board.specs.Refusals.{pairs_refuse}
+use Rattle.board.specs.RefusalLaws.{pairs_front}
 use Rattle.board.specs.declared.Row.{Row}
 use Rattle.board.specs.declared.Board.{Board}
 use Rattle.board.specs.Board.{filled}
@@ -25,17 +28,17 @@ place_start file cells e = rw e
 
 -- a loop through the rows: at one that is refused, and past the last
 module _ (file : List ℕ) (i n at : ℕ) (p : at ≡ row_place file i) (rows : n ≡ rows_in file) (e : firsts (line_in_refuses file) i ≡ 0) where
-  pub rows_stop : (x : ℕ) → i < n → x ≡ row_in_refuses file at → (x ≡ 0 → ⊥) → x ≡ rows_refuse file
+  pub rows_err : (refusal : Refusal) → i < n → number_of refusal ≡ row_in_refuses file at → number_of refusal ≡ rows_refuse file
   unfolding rows_refuse
-  rows_stop x l h some =
-      let q : x ≡ firsts (line_in_refuses file) n = firsts_stop (line_in_refuses file) i n x l e (h ∙ ap (row_in_refuses file) p) some in
-      at_call x _ _ (q ∙ ap (firsts (line_in_refuses file)) rows) some
+  rows_err refusal l h =
+      let q : number_of refusal ≡ firsts (line_in_refuses file) n = firsts_err (line_in_refuses file) i n refusal l e (h ∙ ap (row_in_refuses file) p) in
+      first_err refusal _ _ (q ∙ ap (firsts (line_in_refuses file)) rows)
 
   pub rows_end : (x : ℕ) → i ≤ n → n ≤ i → x ≡ rest_refuses at (trailer file) → x ≡ rows_refuse file
   unfolding rows_refuse
   rows_end x l g h =
       let m : i ≡ rows_in file = omega arith in
-      past_call 0 (firsts (line_in_refuses file) (rows_in file)) x _ (firsts_end (line_in_refuses file) i (rows_in file) (omega arith) (omega arith) e) refl
+      first_ok (firsts (line_in_refuses file) (rows_in file)) _ x (firsts_end (line_in_refuses file) i (rows_in file) (omega arith) (omega arith) e)
       (h ∙ ap (λ (k : ℕ). rest_refuses k (trailer file)) (p ∙ ap (row_place file) m))
 
 -- a loop through a row's pairs: past the last
@@ -48,9 +51,12 @@ row_is file at len low high k names weights e l h n w a b = let m : k ≡ byte f
 
 -- the pairs of a row that was read
 pub pairs_read : (file : List ℕ) (at cells len x : ℕ) (row : Row) → row ≡ row_in file at → cells ≡ cells_in file → len ≡ byte file at
-    → x ≡ pairs_refuse cells row.names len → x ≡ pairs_refuse (cells_in file) (names_in file at) (byte file at)
+    → len ≤ length row.names → x ≡ pairs_refuse cells (take len row.names) (length (take len row.names))
+    → x ≡ pairs_refuse (cells_in file) (names_in file at) (byte file at)
 unfolding row_in
-pairs_read file at cells len x row r c l e = rw (r, c, l) at e
+pairs_read file at cells len x row r c l fits e =
+    let all : x ≡ pairs_refuse cells row.names len = e ∙ pairs_front cells len row.names fits in
+    rw (r, c, l) at all
 
 -- the board, from its parts
 pub board_is : (file : List ℕ) (cells rows : ℕ) (domains : List ℕ) (lines : List Row) → cells ≡ cells_in file → rows ≡ rows_in file

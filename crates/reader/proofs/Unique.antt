@@ -12,17 +12,16 @@ use contract.Monad.{Fun, fact, fact_i, fact_use}
 use denote.Ref.{Bor}
 use denote.Triple.Clauses.{Ended, Clauses, AtExit}
 use denote.Triple.Entry.{Args, Res}
-use Rattle.told.specs.Told.{Told, refused, says}
-use Rattle.told.proofs.ToldLaws.{same_answer}
+use Rattle.std.specs.Prelude.{Result, Ok, Err}
+use Rattle.told.specs.declared.Refusal.{Refusal}
+use Rattle.told.specs.Told.{Told, refused, says, told as plain}
+use Rattle.told.proofs.ToldLaws.{same_told, same_told_by}
 use Rattle.told.specs.Alone.{NoSecondAnswer}
 use Rattle.board.specs.declared.Board.{Board}
-use Rattle.reader.specs.declared.Outcome.{Outcome}
-use Rattle.reader.specs.declared.Outcome.TheVariants.{Read, Refused}
 use Rattle.reader.specs.declared.Reading.{Reading}
 use Rattle.reader.specs.declared.FileReader.{FileReader}
 use Rattle.reader.specs.declared.Counts.{Counts}
-use Rattle.reader.specs.declared.Counts.TheVariants.{Counted, Refused as Uncounted}
-use Rattle.reader.specs.Reading.{told, told_counts, read_says, read_keeps}
+use Rattle.reader.specs.Reading.{told, read_says, read_keeps}
 use Rattle.reader.specs.File.{trailer}
 use Rattle.reader.proofs.read.Reads as read
 use Rattle.reader.proofs.read.Kinds as read-kinds
@@ -37,21 +36,21 @@ use Rattle.reader.proofs.trailer_place.Kinds as trailer-place-kinds
 use Rattle.reader.proofs.refusal_of.Reads as refusal-of
 use Rattle.reader.proofs.refusal_of.Kinds as refusal-of-kinds
 
--- the answer back from what it says
-outcome_of : Told Board → Outcome
-outcome_of (refused number) = Refused number
-outcome_of (says board) = Read
-
-outcome_back : (outcome : Outcome) (board : Board) → outcome_of (told outcome board) ≡ outcome
-unfolding outcome_of
-outcome_back Read board = refl
-outcome_back (Refused number) board = refl
-
-same_parts : {o p : Outcome} {b d : Board} → o ≡ p → b ≡ d → ◌≡◌ {A = Reading} (record { outcome = o; board = b }) (record { outcome = p; board = d })
+same_parts : {o p : Result (Unit {0}) Refusal} {b d : Board} → o ≡ p → b ≡ d → ◌≡◌ {A = Reading} (record { outcome = o; board = b }) (record { outcome = p; board = d })
 same_parts o b = rw (o, b)
 
+-- the outcome back from what it says with any board beside it
+told_without : Told Board → Told (Unit {0})
+told_without (refused number) = refused number
+told_without (says board) = says tt
+
+outcome_told : (outcome : Result (Unit {0}) Refusal) (board : Board) → told_without (told outcome board) ≡ plain outcome
+unfolding told_without
+outcome_told (Ok u) board = refl
+outcome_told (Err refusal) board = refl
+
 same_reading : (x y : Reading) → told x.outcome x.board ≡ told y.outcome y.board → x.board ≡ y.board → x ≡ y
-same_reading x y t b = same_parts (sym (outcome_back x.outcome x.board) ∙ ap outcome_of t ∙ outcome_back y.outcome y.board) b
+same_reading x y t b = same_parts (same_told (sym (outcome_told x.outcome x.board) ∙ ap told_without t ∙ outcome_told y.outcome y.board) refl) b
 
 -- what the contracts say: of a reader that begins, and of a file that was read
 abbrev pub Begun : Bor (List ℕ) → FileReader → Type 0
@@ -91,17 +90,16 @@ pub begin_alone : {M : Type 1} {𝓤 : Ura M} (𝓛 : Logic 𝓤) (mem : Memory 
 begin_alone {𝓤 = 𝓤} 𝓛 mem run κs a g x y e f =
     from_both 𝓤 _ _ (Begun a.0 x) (Begun a.0 y) (x ≡ y) (id⊢ 𝓤 _) (id⊢ 𝓤 _) (λ p q. same_place (p.0 ∙ sym q.0) (p.1 ∙ sym q.1))
 
-counts_of : Told (ℕ × ℕ) → Counts
-counts_of (refused number) = Uncounted number
-counts_of (says counts) = Counted counts.0 counts.1
+-- the record back from the numbers of cells and rows
+counts_of : ℕ × ℕ → Counts
+counts_of pair = record { cells = pair.0; rows = pair.1 }
 
-counts_back : (counts : Counts) → counts_of (told_counts counts) ≡ counts
+counts_back : (counts : Counts) → counts_of (counts.cells, counts.rows) ≡ counts
 unfolding counts_of
-counts_back (Counted cells rows) = refl
-counts_back (Uncounted number) = refl
+counts_back counts = refl
 
 pub board_counts_alone : NoSecondAnswer 1 board-counts-kinds.ps board-counts-kinds.r board-counts.Post (λ κs e. tt {0})
-board_counts_alone κs a x y e f p q = (same_answer told_counts counts_of counts_back p q, refl)
+board_counts_alone κs a x y e f p q = (same_told_by (λ c. (c.cells, c.rows)) counts_of counts_back p q, refl)
 
 pub refusal_of_alone : NoSecondAnswer 0 refusal-of-kinds.ps refusal-of-kinds.r refusal-of.Post (λ κs e. tt {0})
 refusal_of_alone κs a x y e f p q = (p ∙ sym q, refl)

@@ -1,14 +1,12 @@
 -- What the reader refuses, in document 01's order, and what it says and keeps. Definitions only.
-use Rattle.std.specs.Prelude.{List, not, ℕ, ◌+◌, ◌*◌, length, eqb, ltb}
-use Rattle.told.specs.Told.{Told, refused, says, when, first, firsts, answer, leave}
+use Rattle.std.specs.Prelude.{List, not, ℕ, ◌+◌, ◌*◌, length, eqb, ltb, Result, Ok, Err}
+use Rattle.told.specs.declared.Refusal.{Refusal}
+use Rattle.told.specs.Told.{Told, refused, says, when, first, firsts, answer, leave, number_of, told_by, refusal_in}
 use Rattle.sizes.specs.Sizes.{file_size}
 use Rattle.board.specs.declared.Board.{Board}
 use Rattle.board.specs.Board.{mark, zero_board}
 use Rattle.board.specs.Refusals.{sizes_refuse, head_refuses, pairs_refuse}
-use Rattle.reader.specs.declared.Outcome.{Outcome}
-use Rattle.reader.specs.declared.Outcome.TheVariants.{Read, Refused}
 use Rattle.reader.specs.declared.Counts.{Counts}
-use Rattle.reader.specs.declared.Counts.TheVariants.{Counted, Refused as Uncounted}
 use Rattle.reader.specs.File.{byte, two, trailer, start_in, cells_in, rows_in, mark_in, names_in, row_end, row_place, board_in}
 
 -- 6: file below 6 or above 1,062 bytes
@@ -54,9 +52,9 @@ unfoldable pub file_refuses : List ℕ → ℕ
 file_refuses file = first (size_refuses (length file)) (first (trailer_refuses file) (rows_refuse file))
 
 -- document 01's number or what was read, for every case of the reader's answer with the board beside it
-abbrev pub told : Outcome → Board → Told Board
-told Read board = says board
-told (Refused number) board = refused number
+abbrev pub told : Result (Unit {0}) Refusal → Board → Told Board
+told (Ok _) board = says board
+told (Err refusal) board = refused (number_of refusal)
 
 -- what the reader says, and the board that it hands over: zeros after a refusal
 abbrev pub read_says : List ℕ → Told Board
@@ -66,14 +64,12 @@ abbrev pub read_keeps : List ℕ → Board
 read_keeps file = leave (file_refuses file) zero_board (board_in file)
 
 -- the number for no, or 0
-abbrev pub refusal_of : Outcome → ℕ
-refusal_of Read = 0
-refusal_of (Refused number) = number
+abbrev pub refusal_of : Result (Unit {0}) Refusal → ℕ
+refusal_of outcome = refusal_in outcome
 
 -- document 01's number, or the number of cells and the number of rows
-abbrev pub told_counts : Counts → Told (ℕ × ℕ)
-told_counts (Counted cells rows) = says (cells, rows)
-told_counts (Uncounted number) = refused number
+abbrev pub told_counts : Result Counts Refusal → Told (ℕ × ℕ)
+told_counts counts = told_by (λ c. (c.cells, c.rows)) counts
 
 abbrev pub counts_say : List ℕ → Told (ℕ × ℕ)
 counts_say file = answer (file_refuses file) (cells_in file, rows_in file)

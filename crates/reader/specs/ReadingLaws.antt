@@ -1,16 +1,16 @@
 -- What a file that `read` accepts and its board are known to be, and what a caller knows that takes the answer apart. Assumes nothing.
-use Rattle.std.specs.Prelude.{◌≡◌, List, ℕ, ◌≤◌, ◌<◌, length}
-use Rattle.std.proofs.Common.{sym, ap, ◌∙◌}
+use Rattle.std.specs.Prelude.{◌≡◌, List, ℕ, ◌≤◌, ◌<◌, length, Result, Ok, Err}
+use Rattle.std.proofs.Common.{sym, ◌∙◌}
+use Rattle.told.specs.declared.Refusal.{Refusal}
+use Rattle.told.specs.Told.{number_of}
 use Rattle.told.proofs.ToldLaws.{firsts_zero, refused_back, says_back}
 use Rattle.sizes.specs.Sizes.{board_rows, file_size}
 use Rattle.board.specs.Refusals.{line_refuses, board_refuses}
 use Rattle.board.specs.declared.Board.{Board}
-use Rattle.reader.specs.declared.Outcome.{Outcome}
-use Rattle.reader.specs.declared.Outcome.TheVariants.{Read, Refused}
 use Rattle.board.specs.Board.{zero_row, blank_row}
 use Rattle.board.specs.BoardLaws.{filled_at}
 use Rattle.reader.specs.File.{cells_in, rows_in, row_place, line_in, lines_in, board_in}
-use Rattle.reader.specs.Reading.{file_refuses, told, read_says, refusal_of}
+use Rattle.reader.specs.Reading.{file_refuses, told, read_says}
 use Rattle.reader.specs.FileLaws.{file_sound, row_in_fits}
 
 -- an accepted file is at most 1,062 bytes
@@ -27,13 +27,10 @@ read_sound file e =
     rw f.tail.sizes_none (firsts_zero (line_refuses (cells_in file) (lines_in file)) (rows_in file) line)
 
 -- what a caller of `read` knows that has taken its answer apart
-pub said_read : (file : List ℕ) (board : Board) (outcome : Outcome) → outcome ≡ Read → told outcome board ≡ read_says file
+pub said_read : (file : List ℕ) (board : Board) (outcome : Result (Unit {0}) Refusal) {u : Unit {0}} → outcome ≡ Ok u → told outcome board ≡ read_says file
     → (file_refuses file ≡ 0) × (board ≡ board_in file)
 said_read file board outcome r e = says_back (file_refuses file) (board_in file) board (rw r at e)
 
-pub said_refused : (file : List ℕ) (board : Board) (outcome : Outcome) (n k : ℕ) → outcome ≡ Refused k → n ≡ refusal_of outcome → told outcome board ≡ read_says file
-    → (n ≡ file_refuses file) × (n ≡ 0 → ⊥)
-said_refused file board outcome n k r h e =
-    let z = refused_back (file_refuses file) k (board_in file) (rw r at e) in
-    let same : n ≡ k = h ∙ ap refusal_of r in
-    rw same z
+pub said_refused : (file : List ℕ) (board : Board) (outcome : Result (Unit {0}) Refusal) (refusal : Refusal) → outcome ≡ Err refusal → told outcome board ≡ read_says file
+    → number_of refusal ≡ file_refuses file
+said_refused file board outcome refusal r e = (refused_back (file_refuses file) (number_of refusal) (board_in file) (rw r at e)).0

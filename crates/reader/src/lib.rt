@@ -1,37 +1,34 @@
-// Reads a board file: from any bytes to a board, or to the number for no.
+// Reads a board file: from any bytes to a board, or to why there is none.
 #![tactic(auto)]
 
 ghost use Rattle.std.specs.Prelude.{◌≡◌, ◌+◌, ◌*◌, ◌≤◌, ◌<◌, length};
+ghost use Rattle.told.specs.Told.{refusal_in};
 ghost use Rattle.sizes.specs.Sizes.{row_cells, board_cells};
 ghost use Rattle.board.specs.Board.{filled};
 ghost use Rattle.reader.specs.File.{byte, two, four, trailer, file_at, cells_in, domain_in, row_in, row_end, rows_in, lines_in, board_in};
 ghost use Rattle.reader.specs.Reading.{size_refuses, mark_refuses, start_refuses, trailer_refuses, row_in_refuses, rest_refuses, rows_refuse, file_refuses, told, read_says, read_keeps, refusal_of, told_counts, counts_say};
 
-use board::inner::{first_of, head_refuses, pairs_refuse, sizes_refuse, zero_board, zero_row};
+use board::inner::{head_refuses, pairs_refuse, sizes_refuse, zero_board, zero_row};
 use board::{Board, MARK, Row};
 use sizes::{BOARD_CELLS, BOARD_ROWS, FILE, ROW_CELLS};
+use told::Refusal;
 
 // How many bytes the trailer has.
 const TRAILER: usize = 6;
 
-// The reader's answer. What was read stands beside it.
-#[derive(Clone, Copy)]
-pub enum Outcome {
-    Read,
-    Refused(u8),
-}
-
+// The reader's answer, with the board that it hands over, refused or not: the board of a refused read is promised to be all zero
+// (`read_keeps`), so it stands beside the Result and not in it.
 #[derive(Clone, Copy)]
 pub struct Reading {
-    pub outcome: Outcome,
+    pub outcome: Result<(), Refusal>,
     pub board: Board,
 }
 
 // How many cells and rows a file's board has.
 #[derive(Clone, Copy)]
-pub enum Counts {
-    Counted { cells: usize, rows: usize },
-    Refused(u8),
+pub struct Counts {
+    pub cells: usize,
+    pub rows: usize,
 }
 
 // A board file with a place in it.
@@ -53,8 +50,8 @@ pub fn begin<'a>(file: &'a [u8]) -> FileReader<'a>
 
 // Reads from the reader's place.
 pub fn read_from<'a>(reader: FileReader<'a>) -> Reading
-    ensures board_value { told result.outcome result.board ≡ read_says (file_at reader.entry.file.now reader.entry.place) }
-    ensures board_value_2 { result.board ≡ read_keeps (file_at reader.entry.file.now reader.entry.place) }
+    ensures read_value { told result.outcome result.board ≡ read_says (file_at reader.entry.file.now reader.entry.place) }
+    ensures board_kept { result.board ≡ read_keeps (file_at reader.entry.file.now reader.entry.place) }
 {
     let place = reader.place;
     read_at(reader.file, place)
@@ -62,16 +59,16 @@ pub fn read_from<'a>(reader: FileReader<'a>) -> Reading
 
 // Reads a board file. A refused read's board is all zero.
 pub fn read(file: &[u8]) -> Reading
-    ensures board_value { told result.outcome result.board ≡ read_says file.now }
-    ensures board_value_2 { result.board ≡ read_keeps file.now }
+    ensures read_value { told result.outcome result.board ≡ read_says file.now }
+    ensures board_kept { result.board ≡ read_keeps file.now }
 {
     read_from(begin(file))
 }
 
 // Reads the board file whose trailer starts at a place; past the last place for one, the whole file. A refused read's board is all zero.
 pub fn read_at(file: &[u8], place: usize) -> Reading
-    ensures board_value { told result.outcome result.board ≡ read_says (file_at file.now place) }
-    ensures board_value_2 { result.board ≡ read_keeps (file_at file.now place) }
+    ensures read_value { told result.outcome result.board ≡ read_says (file_at file.now place) }
+    ensures board_kept { result.board ≡ read_keeps (file_at file.now place) }
 {
     let last = trailer_place(file);
     if last <= place {
@@ -85,136 +82,129 @@ pub fn read_at(file: &[u8], place: usize) -> Reading
 pub fn trailer_place(file: &[u8]) -> usize
     ensures { result ≡ trailer file.now }
 {
-    let size = file.len();
-    if size < TRAILER {
-        return 0;
-    }
-    size - TRAILER
+    file.len().saturating_sub(TRAILER)
 }
 
 // Reads a whole file.
 fn read_whole(file: &[u8]) -> Reading
-    ensures board_value { told result.outcome result.board ≡ read_says file.now }
-    ensures board_value_2 { result.board ≡ read_keeps file.now }
+    ensures read_value { told result.outcome result.board ≡ read_says file.now }
+    ensures board_kept { result.board ≡ read_keeps file.now }
 {
-    let refusal = file_refuses(file);
-    if refusal != 0 {
+    let outcome = file_refuses(file);
+    let Ok(()) = outcome else {
         let zeros = zero_board();
         return Reading {
-            outcome: Outcome::Refused(refusal),
+            outcome,
             board: zeros,
         };
-    }
+    };
     let board = board_in(file);
-    Reading {
-        outcome: Outcome::Read,
-        board,
-    }
+    Reading { outcome, board }
 }
 
 // Counts the cells and the rows of a file's board.
-pub fn board_counts(file: &[u8]) -> Counts
+pub fn board_counts(file: &[u8]) -> Result<Counts, Refusal>
     ensures { told_counts result ≡ counts_say file.now }
 {
-    let reading = read(file);
-    let outcome = reading.outcome;
-    let Outcome::Read = outcome else {
-        return Counts::Refused(refusal_of(outcome));
+    let Reading { outcome, board } = read(file);
+    let Ok(()) = outcome else {
+        return Err(outcome.unwrap_err());
     };
-    let board = reading.board;
-    Counts::Counted {
+    Ok(Counts {
         cells: board.cells,
         rows: board.rows,
-    }
+    })
 }
 
 // The number for no, or 0.
-pub fn refusal_of(outcome: Outcome) -> u8
+pub fn refusal_of(outcome: Result<(), Refusal>) -> u8
     ensures { result ≡ refusal_of outcome }
 {
     match outcome {
-        Outcome::Read => 0,
-        Outcome::Refused(number) => number,
+        Ok(()) => 0,
+        Err(refusal) => refusal.number(),
     }
 }
 
-fn wide(x: u8) -> usize
-    ensures { (result ≡ x) × (result < 256) }
-{
-    x as usize
-}
-
-// The byte at a row_place, and the numbers of two and four bytes that start there.
+// The byte at a place, and the numbers of two and four bytes that start there.
 fn byte_at(file: &[u8], at: usize) -> usize
     requires { at < length file.now }
     ensures { (result ≡ byte file.now at) × (result < 256) }
 {
-    wide(file[at])
+    usize::from(file[at])
 }
 
 fn two_at(file: &[u8], at: usize) -> usize
     requires { at + 1 < length file.now }
     ensures { (result ≡ two file.now at) × (result < 65536) }
 {
-    wide(file[at]) + 256 * wide(file[at + 1])
+    usize::from(u16::from_le_bytes([file[at], file[at + 1]]))
 }
 
 fn four_at(file: &[u8], at: usize) -> u32
     requires { at + 3 < length file.now }
     ensures { result ≡ four file.now at }
 {
-    let number = two_at(file, at) + 65536 * two_at(file, at + 2);
-    number as u32
+    u32::from_le_bytes([file[at], file[at + 1], file[at + 2], file[at + 3]])
 }
 
-// 6, or 0, for a file of so many bytes.
-fn size_refuses(size: usize) -> u8
-    ensures { result ≡ size_refuses size }
+// How many cells and how many rows the trailer says.
+fn cells_in(file: &[u8]) -> usize
+    requires { 6 ≤ length file.now }
+    ensures { (result ≡ cells_in file.now) × (result < 256) }
 {
-    if size < 6 {
-        return 6;
-    }
-    if FILE < size {
-        return 6;
-    }
-    0
+    byte_at(file, file.len() - TRAILER + 2)
 }
 
-// 7, or 0.
-fn mark_refuses(mark: usize) -> u8
-    ensures { result ≡ mark_refuses mark }
+fn rows_in(file: &[u8]) -> usize
+    requires { 6 ≤ length file.now }
+    ensures { (result ≡ rows_in file.now) × (result < 256) }
+{
+    byte_at(file, file.len() - TRAILER + 3)
+}
+
+// Whether a file may have so many bytes.
+fn size_refuses(size: usize) -> Result<(), Refusal>
+    ensures { refusal_in result ≡ size_refuses size }
+{
+    if size < TRAILER || FILE < size {
+        return Err(Refusal::Size);
+    }
+    Ok(())
+}
+
+// Whether it is the mark.
+fn mark_refuses(mark: usize) -> Result<(), Refusal>
+    ensures { refusal_in result ≡ mark_refuses mark }
 {
     if mark != MARK {
-        return 7;
+        return Err(Refusal::Mark);
     }
-    0
+    Ok(())
 }
 
-// 9, or 0.
-fn start_refuses(start: usize, cells: usize, end: usize) -> u8
+// Whether the rows of a board of so many cells can start there, where the trailer is at `end`.
+fn start_refuses(start: usize, cells: usize, end: usize) -> Result<(), Refusal>
     requires { cells < 256 }
-    ensures { result ≡ start_refuses start cells end }
+    ensures { refusal_in result ≡ start_refuses start cells end }
 {
-    if start != 4 * cells {
-        return 9;
+    if start != 4 * cells || end < start {
+        return Err(Refusal::Start);
     }
-    if end < start {
-        return 9;
-    }
-    0
+    Ok(())
 }
 
-// 7, 8, 9, or 0.
-fn trailer_refuses(file: &[u8]) -> u8
+// What the trailer is refused for.
+#[tactic(auto, unfolding(crate::specs::Reading::trailer_refuses))]
+fn trailer_refuses(file: &[u8]) -> Result<(), Refusal>
     requires { 6 ≤ length file.now }
-    ensures { result ≡ trailer_refuses file.now }
+    ensures { refusal_in result ≡ trailer_refuses file.now }
 {
-    let end = file.len() - TRAILER;
-    let cells = byte_at(file, end + 2);
-    let mark = mark_refuses(two_at(file, end + 4));
-    let sizes = sizes_refuse(cells, byte_at(file, end + 3));
-    let start = start_refuses(two_at(file, end), cells, end);
-    first_of(mark, first_of(sizes, start))
+    let end = trailer_place(file);
+    let cells = cells_in(file);
+    mark_refuses(two_at(file, end + 4))?;
+    sizes_refuse(cells, rows_in(file))?;
+    start_refuses(two_at(file, end), cells, end)
 }
 
 // The row at a place.
@@ -227,11 +217,9 @@ fn row_at(file: &[u8], at: usize) -> Row
     let high = two_at(file, at + 3);
     let mut names: [usize; ROW_CELLS] = [0; ROW_CELLS];
     let mut weights: [u8; ROW_CELLS] = [0; ROW_CELLS];
-    let mut k = 0;
-    while k < len {
+    for k in 0..len {
         names[k] = byte_at(file, at + 5 + 2 * k);
         weights[k] = file[at + 6 + 2 * k];
-        k += 1;
     }
     Row {
         len,
@@ -250,70 +238,59 @@ fn row_end(file: &[u8], at: usize) -> usize
     at + 5 + 2 * byte_at(file, at)
 }
 
-// The first refusal of the row at a row_place, or 0.
-fn row_refuses(file: &[u8], at: usize) -> u8
+// The first refusal of the row at a place.
+#[tactic(auto, unfolding(crate::specs::Reading::row_in_refuses))]
+fn row_refuses(file: &[u8], at: usize) -> Result<(), Refusal>
     requires { at + 6 ≤ length file.now }
-    ensures { result ≡ row_in_refuses file.now at }
+    ensures { refusal_in result ≡ row_in_refuses file.now at }
 {
-    let end = file.len() - TRAILER;
+    let end = trailer_place(file);
     if end < at + 5 {
-        return 10;
+        return Err(Refusal::End);
     }
     let len = byte_at(file, at);
-    let refusal = head_refuses(len, two_at(file, at + 1), two_at(file, at + 3));
-    if refusal != 0 {
-        return refusal;
-    }
-    if end < at + 5 + 2 * len {
-        return 10;
+    head_refuses(len, two_at(file, at + 1), two_at(file, at + 3))?;
+    if end < row_end(file, at) {
+        return Err(Refusal::End);
     }
     let row = row_at(file, at);
-    let names = row.names;
-    pairs_refuse(byte_at(file, end + 2), names, len)
+    let names = &row.names[..len];
+    pairs_refuse(cells_in(file), names)
 }
 
-// 10, or 0, where the rows end at a place.
-fn rest_refuses(at: usize, end: usize) -> u8
-    ensures { result ≡ rest_refuses at end }
+// Whether the rows, which end at a place, end at the trailer.
+fn rest_refuses(at: usize, end: usize) -> Result<(), Refusal>
+    ensures { refusal_in result ≡ rest_refuses at end }
 {
     if at != end {
-        return 10;
+        return Err(Refusal::End);
     }
-    0
+    Ok(())
 }
 
-// The first refusal of the rows, or 0.
-fn rows_refuse(file: &[u8]) -> u8
+// The first refusal of the rows.
+#[tactic(auto, using(crate::proofs::Steps::rows_err))]
+fn rows_refuse(file: &[u8]) -> Result<(), Refusal>
     requires { 4 * cells_in file.now + 6 ≤ length file.now }
-    ensures { result ≡ rows_refuse file.now }
+    ensures { refusal_in result ≡ rows_refuse file.now }
 {
-    let end = file.len() - TRAILER;
-    let rows = byte_at(file, end + 3);
-    let mut at = 4 * byte_at(file, end + 2);
-    let mut i = 0;
-    while i < rows {
-        let refusal = row_refuses(file, at);
-        if refusal != 0 {
-            return refusal;
-        }
+    let rows = rows_in(file);
+    let mut at = 4 * cells_in(file);
+    for i in 0..rows {
+        row_refuses(file, at)?;
         at = row_end(file, at);
-        i += 1;
     }
+    let end = trailer_place(file);
     rest_refuses(at, end)
 }
 
-// The first refusal of a file, or 0.
-fn file_refuses(file: &[u8]) -> u8
-    ensures { result ≡ file_refuses file.now }
+// The first refusal of a file.
+#[tactic(auto, unfolding(crate::specs::Reading::file_refuses))]
+fn file_refuses(file: &[u8]) -> Result<(), Refusal>
+    ensures { refusal_in result ≡ file_refuses file.now }
 {
-    let size = size_refuses(file.len());
-    if size != 0 {
-        return size;
-    }
-    let trailer = trailer_refuses(file);
-    if trailer != 0 {
-        return trailer;
-    }
+    size_refuses(file.len())?;
+    trailer_refuses(file)?;
     rows_refuse(file)
 }
 
@@ -323,10 +300,8 @@ fn domains_in(file: &[u8], cells: usize) -> [u32; BOARD_CELLS]
     ensures { result ≡ filled (domain_in file.now) 0 cells board_cells }
 {
     let mut domains: [u32; BOARD_CELLS] = [0; BOARD_CELLS];
-    let mut i = 0;
-    while i < cells {
+    for i in 0..cells {
         domains[i] = four_at(file, 4 * i);
-        i += 1;
     }
     domains
 }
@@ -339,11 +314,9 @@ fn lines_in(file: &[u8], cells: usize, rows: usize) -> [Row; BOARD_ROWS]
     let zeros = zero_row();
     let mut lines: [Row; BOARD_ROWS] = [zeros; BOARD_ROWS];
     let mut at = 4 * cells;
-    let mut i = 0;
-    while i < rows {
+    for i in 0..rows {
         lines[i] = row_at(file, at);
         at = row_end(file, at);
-        i += 1;
     }
     lines
 }
@@ -353,9 +326,8 @@ fn board_in(file: &[u8]) -> Board
     requires { file_refuses file.now ≡ 0 }
     ensures { result ≡ board_in file.now }
 {
-    let end = file.len() - TRAILER;
-    let cells = byte_at(file, end + 2);
-    let rows = byte_at(file, end + 3);
+    let cells = cells_in(file);
+    let rows = rows_in(file);
     let domains = domains_in(file, cells);
     let lines = lines_in(file, cells, rows);
     Board {

@@ -4,7 +4,7 @@ use Rattle.std.proofs.Common.{sym, ap, ◌∙◌, zero-add, suc-add, add-one, ar
 use Rattle.std.proofs.lemmas.Bool.{not-false, eqb-false, lt-leb}
 use Rattle.told.specs.declared.Refusal.{Refusal}
 use Rattle.told.specs.declared.Refusal.TheVariants.{Length, Limits, Table, Place, Fraction, Size, Mark, Counts, Start, End, Cell, Twice, Room, WriterRoom, Stack}
-use Rattle.told.specs.Told.{Told, refused, says, when, first, firsts, answer, leave, number_of, told, refusal_in}
+use Rattle.told.specs.Told.{Told, refused, says, when, first, firsts, answer, leave, number_of, told, told_by, refusal_in}
 
 -- two answers that tell the same are the same, where the telling can be undone
 pub same_answer : {A B : Type 0} (told : A → B) (back : B → A) → ((a : A) → back (told a) ≡ a) → {r s : A} {x : B} → told r ≡ x → told s ≡ x → r ≡ s
@@ -50,17 +50,24 @@ some_number WriterRoom e = omega (arith, e)
 some_number Stack e = omega (arith, e)
 
 -- an answer is read back from what it says, and a test from its number
-answer_from : {A : Type 0} → Told A → Result A Refusal
-answer_from (refused n) = Err (refusal_from n)
-answer_from (says a) = Ok a
+answer_from : {A B : Type 0} → (B → A) → Told B → Result A Refusal
+answer_from back (refused n) = Err (refusal_from n)
+answer_from back (says b) = Ok (back b)
 
-answer_back : {A : Type 0} (r : Result A Refusal) → answer_from (told r) ≡ r
+answer_back : {A B : Type 0} (f : A → B) (back : B → A) → ((a : A) → back (f a) ≡ a) → (r : Result A Refusal) → answer_from back (told_by f r) ≡ r
 unfolding answer_from
-answer_back (Ok a) = refl
-answer_back (Err e) = ap (λ (z : Refusal). Err z) (refusal_back e)
+answer_back f back undone (Ok a) = ap (λ z. Ok z) (undone a)
+answer_back f back undone (Err e) = ap (λ (z : Refusal). Err z) (refusal_back e)
+
+pub same_told_by : {A B : Type 0} (f : A → B) (back : B → A) → ((a : A) → back (f a) ≡ a) → {r s : Result A Refusal} {x : Told B} → told_by f r ≡ x → told_by f s ≡ x → r ≡ s
+same_told_by f back undone = same_answer (told_by f) (answer_from back) (answer_back f back undone)
+
+told_plainly : {A : Type 0} (r : Result A Refusal) → told_by (λ a. a) r ≡ told r
+told_plainly (Ok a) = refl
+told_plainly (Err e) = refl
 
 pub same_told : {A : Type 0} {r s : Result A Refusal} {x : Told A} → told r ≡ x → told s ≡ x → r ≡ s
-same_told = same_answer told answer_from answer_back
+same_told {r = r} {s = s} p q = same_told_by (λ a. a) (λ a. a) (λ a. refl) (told_plainly r ∙ p) (told_plainly s ∙ q)
 
 test_from : ℕ → Result (Unit {0}) Refusal
 test_from n = cond (eqb n 0) (Ok tt) (Err (refusal_from n))

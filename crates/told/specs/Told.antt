@@ -56,6 +56,11 @@ abbrev pub told : {A : Type 0} → Result A Refusal → Told A
 told (Ok a) = says a
 told (Err e) = refused (number_of e)
 
+-- the same where what is said is f of the value
+abbrev pub told_by : {A B : Type 0} → (A → B) → Result A Refusal → Told B
+told_by f (Ok a) = says (f a)
+told_by f (Err e) = refused (number_of e)
+
 -- the number for no, or 0, of a test for refusals, or of a call whatever its value
 abbrev pub refusal_in : {A : Type 0} → Result A Refusal → ℕ
 refusal_in (Ok a) = 0
