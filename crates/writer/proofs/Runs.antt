@@ -1,14 +1,17 @@
 -- Runs of bytes put one after the other. Assumes nothing.
-use mathlib.Core.Path.{◌≡◌, refl, ◌∙◌}
+use mathlib.Core.Path.{◌≡◌, refl, sym, ap, ◌∙◌}
 use mathlib.Core.List.{List, [], ◌∷◌, ◌++◌}
-use Prim.Native.Nat.{ℕ, suc, ◌+◌, ◌≤◌}
+use Prim.Native.Nat.{ℕ, suc, ◌+◌, ◌-◌, ◌≤◌}
 use native.Mathlib.Nat.{add-zero}
 use native.Mathlib.Numerals.{add-one}
 use native.Mathlib.Omega.{arith}
-use lib.ListN.{length, set}
-use lib.Seq.{sets, sets-eq}
+use Rattle.std.proofs.Common.{append_assoc}
+use lib.ListN.{length, set, take, drop, length-append}
+use lib.Seq.{sets, sets-eq, length-sets}
+use borrow.Rule.Slice.PartMut.{put_mid, Post-is}
 use Rattle.writer.specs.Bytes.{joined}
-use Rattle.writer.specs.Steps.{Put}
+use Rattle.writer.specs.declared.Pen.{Pen}
+use Rattle.writer.specs.Steps.{Put, Puts}
 use Rattle.listing.specs.Listing.{onto}
 
 -- a run of bytes put where the run before it ends
@@ -18,21 +21,33 @@ sets_append (a ∷ vs) ws l i =
     let e : i + suc (length vs) ≡ suc i + length vs = omega arith in
     rw e (sets_append vs ws (set l i a) (suc i))
 
-pub then : {l m r vs ws : List ℕ} {i at : ℕ} → Put l i vs m → Put m at ws r → at ≡ i + length vs → Put l i (vs ++ ws) r
-then {l} {m} {r} {vs} {ws} {i} {at} p q e = record { is = q.is ∙ rw (p.is, e) (sets_append vs ws l i) }
+-- bytes copied into the part of a room that begins at a place
+pub put_is : (room : List ℕ) (at : ℕ) (bytes part : List ℕ) → part ≡ bytes → at + length bytes ≤ length room
+    → put_mid at (at + length bytes - at) room part ≡ sets room at bytes
+put_is room at bytes part e h =
+    rw e (ap (λ (z : List ℕ). take at room ++ (bytes ++ z)) (Post-is at (at + length bytes) room (omega arith)) ∙ sym (sets-eq bytes room at h ∙ append_assoc (take at room) bytes (drop (at + length bytes) room)))
 
--- a loop that puts f 0, f 1, .. one after the other: at its start, one more, and its end
-module _ (f : ℕ → List ℕ) {l : List ℕ} {i : ℕ} where
-  pub put_start : Put l i (joined f 0) l
+-- a room keeps its length
+pub room_stays : {a b : Pen} {bytes : List ℕ} → Puts a bytes b → length b.room.now ≡ length a.room.now
+room_stays {a} {b} {bytes} p = rw p.put.is (length-sets a.room.now a.at bytes)
+
+pub then : {a b c : Pen} {vs ws : List ℕ} → Puts a vs b → Puts b ws c → Puts a (vs ++ ws) c
+then {a} {b} {c} {vs} {ws} p q =
+    record {
+      put = record { is = q.put.is ∙ rw (p.put.is, p.at) (sets_append vs ws a.room.now a.at) };
+      at = q.at ∙ rw p.at (rw length-append (omega arith));
+      same = q.same ∙ p.same;
+    }
+
+-- a loop that puts f 0, f 1, .. one after the other: at its start, and one more
+module _ (f : ℕ → List ℕ) where
+  pub put_start : (a : Pen) → Puts a (joined f 0) a
   unfolding joined
-  put_start = record { is = refl }
+  put_start a = record { put = record { is = refl }; at = omega arith; same = refl }
 
-  pub put_next : {m r : List ℕ} {at k : ℕ} → Put l i (joined f k) m → Put m at (f k) r → at ≡ i + length (joined f k) → Put l i (joined f (k + 1)) r
+  pub put_next : {a b c : Pen} {k : ℕ} → Puts a (joined f k) b → Puts b (f k) c → Puts a (joined f (k + 1)) c
   unfolding joined
-  put_next p q e = rw add-one (then p q e)
-
-  pub put_end : {m : List ℕ} {k n : ℕ} → Put l i (joined f k) m → k ≤ n → n ≤ k → Put l i (joined f n) m
-  put_end {m} {k} {n} p a b = let h : k ≡ n = omega arith in rw h at p
+  put_next p q = rw add-one (then p q)
 
 -- bytes put at the front, and all that follows as it was
 pub put_front : {before bytes after : List ℕ} → Put before 0 bytes after → length bytes ≤ length before → after ≡ onto bytes before

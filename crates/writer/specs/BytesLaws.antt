@@ -1,7 +1,8 @@
 -- How long the parts of a file are, and that the same boards have the same bytes. Assumes nothing.
-use Rattle.std.specs.Prelude.{◌≡◌, List, ◌⊎◌, length}
+use Rattle.std.specs.Prelude.{◌≡◌, List, ◌⊎◌, length, take}
 use Rattle.std.proofs.Math.Path.{refl}
-use Rattle.std.proofs.Common.{sym, mul-suc, le_refl, add-one}
+use Rattle.std.proofs.Common.{sym, ap, ◌∙◌, mul-suc, le_refl, add-one, length-take-le}
+use Rattle.std.proofs.lemmas.List.{get_or-take}
 use Rattle.std.proofs.Math.Logic.{⊎_elim}
 use Prim.Native.Nat.{ℕ, zero, suc, ◌+◌, ◌*◌, ◌≤◌, ◌<◌}
 use Rattle.std.proofs.Math.Nat.{eq-or-lt_of_le}
@@ -10,10 +11,10 @@ use Rattle.std.proofs.Math.ListN.{length-append}
 use Rattle.sizes.specs.Sizes.{row_cells, file_size}
 use Rattle.board.specs.declared.Row.{Row}
 use Rattle.board.specs.declared.Board.{Board}
-use Rattle.board.specs.Board.{row_at, SameRow, SameBoard}
+use Rattle.board.specs.Board.{row_at, blank_row, SameRow, SameBoard}
 use Rattle.board.specs.Refusals.{board_refuses}
 use Rattle.board.specs.RefusalLaws.{board_sound}
-use Rattle.writer.specs.Bytes.{joined, pair_bytes, row_bytes, domain_bytes, line_bytes, file_of}
+use Rattle.writer.specs.Bytes.{joined, four_bytes, pair_bytes, row_bytes, domain_bytes, line_bytes, file_of}
 use Rattle.writer.specs.Steps.{ShortRows}
 
 -- how long what is joined is
@@ -82,6 +83,25 @@ joined_same : (f g : ℕ → List ℕ) (n : ℕ) → ((k : ℕ) → k < n → f 
 unfolding joined
 joined_same f g zero h = refl
 joined_same f g (suc n) h = rw (joined_same f g n (λ k l. h k (omega arith)), h n (omega arith))
+
+-- the domains, and the rows, that stand at the front of an array
+pub domains_front : (domains : List ℕ) (cells : ℕ) → cells ≤ length domains
+    → joined (domain_bytes (take cells domains)) (length (take cells domains)) ≡ joined (domain_bytes domains) cells
+domains_front domains cells h =
+    ap (joined (domain_bytes (take cells domains))) (length-take-le cells domains h)
+    ∙ joined_same (domain_bytes (take cells domains)) (domain_bytes domains) cells (λ k l. ap four_bytes (get_or-take cells domains k 0 l))
+
+pub rows_front : (lines : List Row) (rows : ℕ) → rows ≤ length lines
+    → joined (line_bytes (take rows lines)) (length (take rows lines)) ≡ joined (line_bytes lines) rows
+rows_front lines rows h =
+    ap (joined (line_bytes (take rows lines))) (length-take-le rows lines h)
+    ∙ joined_same (line_bytes (take rows lines)) (line_bytes lines) rows (λ i l. ap row_bytes (get_or-take rows lines i blank_row l))
+
+pub short_front : (lines : List Row) (rows : ℕ) → rows ≤ length lines → ShortRows lines rows → ShortRows (take rows lines) (length (take rows lines))
+short_front lines rows h short i l =
+    let n = length-take-le rows lines h in
+    let m : i < rows = omega arith in
+    rw (get_or-take rows lines i blank_row m) (short i m)
 
 row_bytes_same : (a b : Row) → SameRow a b → row_bytes a ≡ row_bytes b
 unfolding row_bytes

@@ -1,17 +1,10 @@
 -- What the writer refuses, in document 01's order, and what it says and leaves. Definitions only.
 use Rattle.std.specs.Prelude.{List, ℕ, length, ltb}
-use Rattle.told.specs.Told.{Told, refused, says, when, first, answer, leave}
+use Rattle.told.specs.Told.{Told, when, first, answer, leave}
 use Rattle.listing.specs.Listing.{onto}
 use Rattle.board.specs.declared.Board.{Board}
 use Rattle.board.specs.Refusals.{board_refuses}
-use Rattle.writer.specs.declared.Writing.{Writing}
-use Rattle.writer.specs.declared.Writing.TheVariants.{Written, Refused}
 use Rattle.writer.specs.Bytes.{file_of}
-
--- document 01's number, or the file's length, for every case of the answer
-abbrev pub told : Writing → Told ℕ
-told (Written size) = says size
-told (Refused number) = refused number
 
 -- 14: writer's room shorter than the file
 abbrev pub room_refuses : ℕ → ℕ → ℕ

@@ -1,52 +1,42 @@
-// Writes a board file: from any record to its bytes in lent room, or to the number for no.
+// Writes a board file: from any record to its bytes in lent room, or to why there is none.
 #![tactic(auto)]
 
-ghost use Rattle.std.specs.Prelude.{◌≡◌, [], ◌∷◌, ◌+◌, ◌*◌, ◌%◌, ◌≤◌, ◌<◌, length};
+ghost use Rattle.std.specs.Prelude.{◌≡◌, [], ◌∷◌, ◌+◌, ◌*◌, ◌%◌, ◌≤◌, length};
+ghost use Rattle.told.specs.Told.{told};
 ghost use Rattle.sizes.specs.Sizes.{row_cells, board_cells, board_rows};
 ghost use Rattle.board.specs.Refusals.{board_refuses};
-ghost use Rattle.writer.specs.Bytes.{joined, two_bytes, four_bytes, head_bytes, pair_bytes, row_bytes, domain_bytes, line_bytes, trailer_bytes, file_of};
-ghost use Rattle.writer.specs.Steps.{ShortRows, Put};
-ghost use Rattle.writer.specs.Writing.{told, write_says, write_leaves};
+ghost use Rattle.writer.specs.Bytes.{joined, two_bytes, four_bytes, row_bytes, domain_bytes, line_bytes, trailer_bytes, file_of};
+ghost use Rattle.writer.specs.Steps.{ShortRows, Puts};
+ghost use Rattle.writer.specs.Writing.{write_says, write_leaves};
 
 use board::inner::board_refuses;
 use board::{Board, MARK, Row};
-use sizes::{BOARD_CELLS, BOARD_ROWS, ROW_CELLS};
+use told::Refusal;
 
-// The writer's answer: the file's length.
-#[derive(Clone, Copy)]
-pub enum Writing {
-    Written(usize),
-    Refused(u8),
-}
-
-// Writes a board file at the front of the room. A refusal leaves the room as it was.
-pub fn write(board: Board, room: &mut [u8]) -> Writing
+// Writes a board file at the front of the room, and answers the file's length. A refusal leaves the room as it was.
+#[tactic(auto, unfolding(crate::specs::Writing::write_refuses))]
+pub fn write(board: Board, room: &mut [u8]) -> Result<usize, Refusal>
     ensures result_value { told result ≡ write_says board room.old }
     ensures room_after { room.new ≡ write_leaves board room.old }
 {
-    let refusal = board_refuses(board);
-    if refusal != 0 {
-        return Writing::Refused(refusal);
-    }
+    board_refuses(board)?;
     let size = file_size(board);
     if room.len() < size {
-        return Writing::Refused(14);
+        return Err(Refusal::WriterRoom);
     }
-    put_file(room, board);
-    Writing::Written(size)
+    let mut pen = Pen { room, at: 0 };
+    pen.file(board);
+    Ok(size)
 }
 
-// How many bytes the first rows rows take.
-fn rows_size(lines: [Row; BOARD_ROWS], rows: usize) -> usize
-    requires { (rows ≤ board_rows) × ShortRows lines rows }
-    ensures { result ≡ length (joined (line_bytes lines) rows) }
+// How many bytes the rows take.
+fn rows_size(rows: &[Row]) -> usize
+    requires { (length rows.now ≤ board_rows) × ShortRows rows.now (length rows.now) }
+    ensures { result ≡ length (joined (line_bytes rows.now) (length rows.now)) }
 {
     let mut size: usize = 0;
-    let mut i = 0;
-    while i < rows {
-        let row = lines[i];
-        size = size + 5 + 2 * row.len;
-        i += 1;
+    for row in rows {
+        size += 5 + 2 * row.len;
     }
     size
 }
@@ -56,128 +46,99 @@ fn file_size(board: Board) -> usize
     requires { board_refuses board ≡ 0 }
     ensures { result ≡ length (file_of board) }
 {
-    let cells = board.cells;
-    let rows = board.rows;
-    let lines = board.lines;
-    4 * cells + rows_size(lines, rows) + 6
+    let rows = &board.lines[..board.rows];
+    4 * board.cells + rows_size(rows) + 6
 }
 
-// Each of these puts bytes at a place and leaves the rest of the room as it was.
-fn put_byte(room: &mut [u8], at: usize, byte: usize)
-    requires { at < length room.old }
-    ensures { Put room.old at (byte % 256 ∷ []) room.new }
-{
-    room[at] = (byte % 256) as u8;
-}
-
-fn put_two(room: &mut [u8], at: usize, number: usize)
-    requires { at + 1 < length room.old }
-    ensures { Put room.old at (two_bytes number) room.new }
-{
-    room[at] = (number % 256) as u8;
-    room[at + 1] = (number / 256 % 256) as u8;
-}
-
-fn put_four(room: &mut [u8], at: usize, number: u32)
-    requires { at + 3 < length room.old }
-    ensures { Put room.old at (four_bytes number) room.new }
-{
-    put_two(room, at, (number % 65536) as usize);
-    put_two(room, at + 2, (number / 65536) as usize);
-}
-
-fn put_pair(room: &mut [u8], at: usize, name: usize, weight: u8)
-    requires { at + 1 < length room.old }
-    ensures { Put room.old at (name % 256 ∷ weight ∷ []) room.new }
-{
-    room[at] = (name % 256) as u8;
-    room[at + 1] = weight;
-}
-
-fn put_domains(room: &mut [u8], domains: [u32; BOARD_CELLS], cells: usize)
-    requires { (cells ≤ board_cells) × (4 * cells ≤ length room.old) }
-    ensures { Put room.old 0 (joined (domain_bytes domains) cells) room.new }
-{
-    let mut i = 0;
-    while i < cells {
-        put_four(room, 4 * i, domains[i]);
-        i += 1;
-    }
-}
-
-fn put_head(room: &mut [u8], at: usize, len: usize, low: usize, high: usize)
-    requires { at + 4 < length room.old }
-    ensures { Put room.old at (head_bytes len low high) room.new }
-{
-    put_byte(room, at, len);
-    put_two(room, at + 1, low);
-    put_two(room, at + 3, high);
-}
-
-fn put_pairs(
-    room: &mut [u8],
+// A room, and the place up to which it is written. What each method puts comes next; the rest of the room is left as it was.
+#[derive(Drop)]
+struct Pen<'a> {
+    room: &'a mut [u8],
     at: usize,
-    names: [usize; ROW_CELLS],
-    weights: [u8; ROW_CELLS],
-    len: usize,
-)
-    requires { (len ≤ row_cells) × (at + 2 * len ≤ length room.old) }
-    ensures { Put room.old at (joined (pair_bytes names weights) len) room.new }
-{
-    let mut k = 0;
-    while k < len {
-        put_pair(room, at + 2 * k, names[k], weights[k]);
-        k += 1;
+}
+
+impl<'a> Pen<'a> {
+    fn put(&mut self, bytes: &[u8])
+        requires { self.old.at + length bytes.now ≤ length self.old.room.now }
+        ensures { Puts self.old bytes.now self.new }
+    {
+        let at = self.at;
+        let end = at + bytes.len();
+        self.room[at..end].copy_from_slice(bytes);
+        self.at = end;
     }
-}
 
-fn put_row(room: &mut [u8], at: usize, row: Row)
-    requires { (row.len ≤ row_cells) × (at + 5 + 2 * row.len ≤ length room.old) }
-    ensures { Put room.old at (row_bytes row) room.new }
-{
-    let len = row.len;
-    let names = row.names;
-    let weights = row.weights;
-    put_head(room, at, len, row.low, row.high);
-    put_pairs(room, at + 5, names, weights, len);
-}
-
-// Answers where the rows end.
-fn put_rows(room: &mut [u8], at: usize, lines: [Row; BOARD_ROWS], rows: usize) -> usize
-    requires { (rows ≤ board_rows) × ShortRows lines rows × (at + length (joined (line_bytes lines) rows) ≤ length room.old) }
-    ensures value { result ≡ at + length (joined (line_bytes lines) rows) }
-    ensures put { Put room.old at (joined (line_bytes lines) rows) room.new }
-{
-    let mut place = at;
-    let mut i = 0;
-    while i < rows {
-        let row = lines[i];
-        put_row(room, place, row);
-        place = place + 5 + 2 * row.len;
-        i += 1;
+    // A number's lowest byte.
+    fn byte(&mut self, number: usize)
+        requires { self.old.at + 1 ≤ length self.old.room.now }
+        ensures { Puts self.old (number % 256 ∷ []) self.new }
+    {
+        self.put(&[(number % 256) as u8]);
     }
-    place
-}
 
-fn put_trailer(room: &mut [u8], at: usize, cells: usize, rows: usize)
-    requires { (at + 5 < length room.old) × (cells ≤ board_cells) }
-    ensures { Put room.old at (trailer_bytes cells rows) room.new }
-{
-    put_two(room, at, 4 * cells);
-    put_byte(room, at + 2, cells);
-    put_byte(room, at + 3, rows);
-    put_two(room, at + 4, MARK);
-}
+    // Its lowest two, the lower first.
+    fn two(&mut self, number: usize)
+        requires { self.old.at + 2 ≤ length self.old.room.now }
+        ensures { Puts self.old (two_bytes number) self.new }
+    {
+        self.put(&((number % 65536) as u16).to_le_bytes());
+    }
 
-fn put_file(room: &mut [u8], board: Board)
-    requires { (board_refuses board ≡ 0) × (length (file_of board) ≤ length room.old) }
-    ensures { Put room.old 0 (file_of board) room.new }
-{
-    let cells = board.cells;
-    let rows = board.rows;
-    let domains = board.domains;
-    let lines = board.lines;
-    put_domains(room, domains, cells);
-    let end = put_rows(room, 4 * cells, lines, rows);
-    put_trailer(room, end, cells, rows);
+    fn four(&mut self, number: u32)
+        requires { self.old.at + 4 ≤ length self.old.room.now }
+        ensures { Puts self.old (four_bytes number) self.new }
+    {
+        self.put(&number.to_le_bytes());
+    }
+
+    fn domains(&mut self, domains: &[u32])
+        requires { self.old.at + 4 * length domains.now ≤ length self.old.room.now }
+        ensures { Puts self.old (joined (domain_bytes domains.now) (length domains.now)) self.new }
+    {
+        for domain in domains {
+            self.four(*domain);
+        }
+    }
+
+    fn row(&mut self, row: &Row)
+        requires { (row.now.len ≤ row_cells) × (self.old.at + (5 + 2 * row.now.len) ≤ length self.old.room.now) }
+        ensures { Puts self.old (row_bytes row.now) self.new }
+    {
+        self.byte(row.len);
+        self.two(row.low);
+        self.two(row.high);
+        for k in 0..row.len {
+            self.put(&[(row.names[k] % 256) as u8, row.weights[k]]);
+        }
+    }
+
+    fn rows(&mut self, rows: &[Row])
+        requires { ShortRows rows.now (length rows.now) × (self.old.at + length (joined (line_bytes rows.now) (length rows.now)) ≤ length self.old.room.now) }
+        ensures { Puts self.old (joined (line_bytes rows.now) (length rows.now)) self.new }
+    {
+        for row in rows {
+            self.row(row);
+        }
+    }
+
+    fn trailer(&mut self, cells: usize, rows: usize)
+        requires { (cells ≤ board_cells) × (self.old.at + 6 ≤ length self.old.room.now) }
+        ensures { Puts self.old (trailer_bytes cells rows) self.new }
+    {
+        self.two(4 * cells);
+        self.byte(cells);
+        self.byte(rows);
+        self.two(MARK);
+    }
+
+    fn file(&mut self, board: Board)
+        requires { (board_refuses board ≡ 0) × (self.old.at + length (file_of board) ≤ length self.old.room.now) }
+        ensures { Puts self.old (file_of board) self.new }
+    {
+        let domains = &board.domains[..board.cells];
+        self.domains(domains);
+        let rows = &board.lines[..board.rows];
+        self.rows(rows);
+        self.trailer(board.cells, board.rows);
+    }
 }
