@@ -4,27 +4,30 @@
 
 ghost use Rattle.std.specs.Prelude.{◌≡◌};
 ghost use Rattle.fraction.specs.Rank.{told as rankTold, rank_says};
-ghost use Rattle.row.specs.Answers.{told as rowTold, total_says, count_says, strike_says, tables, row_leaves, count_leaves, strike_leaves};
+ghost use Rattle.told.specs.Told.{told};
+ghost use Rattle.row.specs.Answers.{total_says, count_says, strike_says, tables, row_leaves, count_leaves, strike_leaves};
 ghost use Rattle.reader.specs.File.{file_at, trailer};
 ghost use Rattle.reader.specs.Reading.{read_says, refusal_of, told_counts, counts_say};
-ghost use Rattle.writer.specs.Writing.{told as writeTold, write_says, write_leaves};
+ghost use Rattle.writer.specs.Writing.{write_says, write_leaves};
 ghost use Rattle.choose.specs.Advice.{told as choiceTold};
 ghost use Rattle.advice.specs.Advising.{told as adviseTold, advise_says, rooms, advise_leaves};
 ghost use Rattle.search.specs.Finishing.{told as searchTold, search_says, lent, search_leaves};
 ghost use Rattle.tanglepunt.specs.Flat.{number_of, order_of, counts_of, board_with, reading_of, advice_of, chosen_of, plain_of, ending_of};
 
-use advice::{Answer as Advised, advise};
+use advice::{Advised, advise};
 use board::Board;
 use choose::Advice as Choice;
 use fraction::inner::share;
-use fraction::{Ranking, rank};
+use fraction::rank;
 use reader::{
     Counts as Counted, Reading as Readout, board_counts, read, read_at, refusal_of, trailer_place,
 };
-use row::{Answer, count, strike, total};
-use search::{Answer as Searched, search};
+use row::{count, strike, total};
+use search::{Ending as Ended, search};
 use settle::Tally;
-use writer::{Writing, write};
+use std::cmp::Ordering;
+use told::Refusal;
+use writer::write;
 
 // A number: a total, a count, how many values were struck, or the length of a file.
 #[repr(C)]
@@ -88,7 +91,7 @@ pub struct Ending {
 pub extern "C" fn tanglepunt_rank(c1: u64, t1: u64, c2: u64, t2: u64) -> Order
     ensures { result ≡ order_of (rank_says c1 t1 c2 t2) }
 {
-    order_of(rank(c1, t1, c2, t2))
+    Order::from(rank(c1, t1, c2, t2))
 }
 
 // The total: how many fillings of the row are good.
@@ -104,7 +107,7 @@ pub extern "C" fn tanglepunt_total(
     ensures value { result ≡ number_of (total_says weights.now domains.now low high forward.old backward.old) }
     ensures backward_after { tables forward.new backward.new ≡ row_leaves weights.now domains.now low high forward.old backward.old }
 {
-    number_of(total(weights, domains, low, high, forward, backward))
+    Number::from(total(weights, domains, low, high, forward, backward))
 }
 
 // The count of a place and a value: how many good fillings have that value in that cell.
@@ -122,7 +125,7 @@ pub extern "C" fn tanglepunt_count(
     ensures value { result ≡ number_of (count_says weights.now domains.now low high place value forward.old backward.old) }
     ensures backward_after { tables forward.new backward.new ≡ count_leaves weights.now domains.now low high place value forward.old backward.old }
 {
-    number_of(count(weights, domains, low, high, place, value, forward, backward))
+    Number::from(count(weights, domains, low, high, place, value, forward, backward))
 }
 
 // Strikes from the domains every value whose count is 0, and answers how many.
@@ -139,7 +142,7 @@ pub extern "C" fn tanglepunt_strike(
     ensures backward_after { tables forward.new backward.new ≡ row_leaves weights.now domains.old low high forward.old backward.old }
     ensures domains_after { domains.new ≡ strike_leaves weights.now domains.old low high forward.old backward.old }
 {
-    number_of(strike(weights, domains, low, high, forward, backward))
+    Number::from(strike(weights, domains, low, high, forward, backward))
 }
 
 // Where a reader of the file begins: the place of its trailer.
@@ -155,7 +158,7 @@ pub extern "C" fn tanglepunt_begin(file: &[u8]) -> usize
 pub extern "C" fn tanglepunt_read(file: &[u8]) -> Reading
     ensures { result ≡ reading_of (read_says file.now) }
 {
-    reading_of(read(file))
+    Reading::from(read(file))
 }
 
 // Reads the board file whose trailer starts at a place; past the last place for one, the whole file.
@@ -163,7 +166,7 @@ pub extern "C" fn tanglepunt_read(file: &[u8]) -> Reading
 pub extern "C" fn tanglepunt_read_at(file: &[u8], place: usize) -> Reading
     ensures { result ≡ reading_of (read_says (file_at file.now place)) }
 {
-    reading_of(read_at(file, place))
+    Reading::from(read_at(file, place))
 }
 
 // How many cells and rows the board of a file has.
@@ -171,7 +174,7 @@ pub extern "C" fn tanglepunt_read_at(file: &[u8], place: usize) -> Reading
 pub extern "C" fn tanglepunt_board_counts(file: &[u8]) -> Counts
     ensures { result ≡ counts_of (counts_say file.now) }
 {
-    counts_of(board_counts(file))
+    Counts::from(board_counts(file))
 }
 
 // Writes a board file at the front of the room, and answers its length.
@@ -180,7 +183,7 @@ pub extern "C" fn tanglepunt_write(board: Board, room: &mut [u8]) -> Number
     ensures value { result ≡ number_of (write_says board room.old) }
     ensures room_after { room.new ≡ write_leaves board room.old }
 {
-    written_of(write(board, room))
+    Number::from(write(board, room))
 }
 
 // Settles the board of a file in the room and advises a move on it.
@@ -194,7 +197,7 @@ pub extern "C" fn tanglepunt_advise(
     ensures value { result ≡ advice_of (advise_says file.now room.old forward.old backward.old) }
     ensures backward_after { rooms room.new forward.new backward.new ≡ advise_leaves file.now room.old forward.old backward.old }
 {
-    advice_of(advise(file, room, forward, backward))
+    Advice::from(advise(file, room, forward, backward))
 }
 
 // Searches the board of a file for a filling, with so many choices allowed; choices then holds those that remain.
@@ -210,93 +213,129 @@ pub extern "C" fn tanglepunt_search(
     ensures value { result ≡ ending_of (search_says file.now choices.old room.old stack.old forward.old backward.old) }
     ensures backward_after { lent choices.new room.new stack.new forward.new backward.new ≡ search_leaves file.now choices.old room.old stack.old forward.old backward.old }
 {
-    ending_of(search(file, choices, room, stack, forward, backward))
+    Ending::from(search(file, choices, room, stack, forward, backward))
 }
 
 // Each of these turns an answer into its struct.
-fn order_of(ranking: Ranking) -> Order
-    ensures { result ≡ order_of (rankTold ranking) }
-{
-    match ranking {
-        Ranking::Below => Order {
-            refused: 0,
-            order: 0,
-        },
-        Ranking::Equal => Order {
-            refused: 0,
-            order: 1,
-        },
-        Ranking::Above => Order {
-            refused: 0,
-            order: 2,
-        },
-        Ranking::Refused(refused) => Order { refused, order: 0 },
+impl From<Result<Ordering, Refusal>> for Order {
+    ghost from_gives = { λ ranking order. order ≡ order_of (rankTold ranking) };
+
+    fn from(ranking: Result<Ordering, Refusal>) -> Order {
+        match ranking {
+            Ok(Ordering::Less) => Order {
+                refused: 0,
+                order: 0,
+            },
+            Ok(Ordering::Equal) => Order {
+                refused: 0,
+                order: 1,
+            },
+            Ok(Ordering::Greater) => Order {
+                refused: 0,
+                order: 2,
+            },
+            Err(refusal) => Order {
+                refused: refusal.number(),
+                order: 0,
+            },
+        }
     }
 }
 
-fn number_of(answer: Answer) -> Number
-    ensures { result ≡ number_of (rowTold answer) }
-{
-    match answer {
-        Answer::Number(number) => Number { refused: 0, number },
-        Answer::Refused(refused) => Number { refused, number: 0 },
+impl From<Result<u64, Refusal>> for Number {
+    ghost from_gives = { λ answer number. number ≡ number_of (told answer) };
+
+    fn from(answer: Result<u64, Refusal>) -> Number {
+        match answer {
+            Ok(number) => Number { refused: 0, number },
+            Err(refusal) => Number {
+                refused: refusal.number(),
+                number: 0,
+            },
+        }
     }
 }
 
-fn written_of(writing: Writing) -> Number
-    ensures { result ≡ number_of (writeTold writing) }
-{
-    match writing {
-        Writing::Written(size) => Number {
-            refused: 0,
-            number: size as u64,
-        },
-        Writing::Refused(refused) => Number { refused, number: 0 },
+// A file's length.
+impl From<Result<usize, Refusal>> for Number {
+    ghost from_gives = { λ written number. number ≡ number_of (told written) };
+
+    fn from(written: Result<usize, Refusal>) -> Number {
+        Number::from(written.map(|size| size as u64))
     }
 }
 
-fn reading_of(reading: Readout) -> Reading
-    ensures { result ≡ board_with (refusal_of reading.outcome) reading.board }
-{
-    let outcome = reading.outcome;
-    let board = reading.board;
-    Reading {
-        refused: refusal_of(outcome),
-        board,
+impl From<Readout> for Reading {
+    ghost from_gives = { λ readout reading. reading ≡ board_with (refusal_of readout.outcome) readout.board };
+
+    fn from(readout: Readout) -> Reading {
+        let Readout { outcome, board } = readout;
+        Reading {
+            refused: refusal_of(outcome),
+            board,
+        }
     }
 }
 
-fn counts_of(counts: Counted) -> Counts
-    ensures { result ≡ counts_of (told_counts counts) }
-{
-    match counts {
-        Counted::Counted { cells, rows } => Counts {
-            refused: 0,
-            cells,
-            rows,
-        },
-        Counted::Refused(refused) => Counts {
-            refused,
-            cells: 0,
-            rows: 0,
-        },
+impl From<Result<Counted, Refusal>> for Counts {
+    ghost from_gives = { λ counted counts. counts ≡ counts_of (told_counts counted) };
+
+    fn from(counted: Result<Counted, Refusal>) -> Counts {
+        match counted {
+            Ok(Counted { cells, rows }) => Counts {
+                refused: 0,
+                cells,
+                rows,
+            },
+            Err(refusal) => Counts {
+                refused: refusal.number(),
+                cells: 0,
+                rows: 0,
+            },
+        }
     }
 }
 
-fn advice_of(answer: Advised) -> Advice
-    ensures { result ≡ advice_of (adviseTold answer) }
-{
-    match answer {
-        Advised::Advised { tally, advice } => chosen_of(tally, advice),
-        Advised::Refused(refused) => plain(refused, 0, 0, 0),
+impl From<Result<Advised, Refusal>> for Advice {
+    ghost from_gives = { λ answer advice. advice ≡ advice_of (adviseTold answer) };
+
+    fn from(answer: Result<Advised, Refusal>) -> Advice {
+        match answer {
+            Ok(Advised { tally, advice }) => chosen_of(tally, advice),
+            Err(refusal) => plain(refusal.number(), 0, 0, 0),
+        }
+    }
+}
+
+impl From<Result<Ended, Refusal>> for Ending {
+    ghost from_gives = { λ answer ending. ending ≡ ending_of (searchTold answer) };
+
+    fn from(answer: Result<Ended, Refusal>) -> Ending {
+        match answer {
+            Ok(Ended::Solved) => Ending {
+                refused: 0,
+                ending: 0,
+            },
+            Ok(Ended::None) => Ending {
+                refused: 0,
+                ending: 1,
+            },
+            Ok(Ended::Spent) => Ending {
+                refused: 0,
+                ending: 2,
+            },
+            Err(refusal) => Ending {
+                refused: refusal.number(),
+                ending: 0,
+            },
+        }
     }
 }
 
 fn chosen_of(tally: Tally, choice: Choice) -> Advice
     ensures { result ≡ chosen_of tally.passes tally.struck (choiceTold choice) }
 {
-    let passes = tally.passes;
-    let struck = tally.struck;
+    let Tally { passes, struck } = tally;
     match choice {
         Choice::Dead => plain(0, 0, passes, struck),
         Choice::Settled => plain(0, 1, passes, struck),
@@ -337,25 +376,5 @@ fn plain(refused: u8, kind: u8, passes: usize, struck: usize) -> Advice
         count: 0,
         total: 0,
         share: share(0, 1),
-    }
-}
-
-fn ending_of(answer: Searched) -> Ending
-    ensures { result ≡ ending_of (searchTold answer) }
-{
-    match answer {
-        Searched::Solved => Ending {
-            refused: 0,
-            ending: 0,
-        },
-        Searched::None => Ending {
-            refused: 0,
-            ending: 1,
-        },
-        Searched::Spent => Ending {
-            refused: 0,
-            ending: 2,
-        },
-        Searched::Refused(refused) => Ending { refused, ending: 0 },
     }
 }
