@@ -8,11 +8,9 @@ ghost use Rattle.digits.specs.Digits.{with_digit, spelled};
 pub fn number_of(word: &[u8]) -> u64
     ensures { result ≡ spelled word.now }
 {
-    let mut n: u64 = 0;
-    let mut i: usize = 0;
-    while i < word.len() {
-        n = with_digit(n, word[i]);
-        i += 1;
+    let mut n = 0;
+    for digit in word {
+        n = with_digit(n, *digit);
     }
     n
 }
@@ -21,9 +19,5 @@ pub fn number_of(word: &[u8]) -> u64
 fn with_digit(n: u64, digit: u8) -> u64
     ensures { result ≡ with_digit n digit }
 {
-    let last = (digit % 16) as u64;
-    if (u64::MAX - last) / 10 < n {
-        return u64::MAX;
-    }
-    10 * n + last
+    n.saturating_mul(10).saturating_add(u64::from(digit % 16))
 }
