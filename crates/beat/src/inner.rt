@@ -1,95 +1,59 @@
 // Calls for the floors above, whose candidates have totals above 0.
 ghost use Rattle.std.specs.Prelude.{◌≡◌, true, [], ◌<◌};
 ghost use Rattle.sizes.specs.Sizes.{values};
-ghost use Rattle.told.specs.Told.{says};
 ghost use Rattle.listing.specs.Listing.{keep};
-ghost use Rattle.fraction.specs.Rank.{told};
+ghost use Rattle.fraction.specs.Rank.{word};
 ghost use Rattle.counting.specs.Counting.{lists};
-ghost use Rattle.choosing.specs.Choosing.{by_density, by_ties, is_above, beats};
-ghost use Rattle.choosing.specs.Going.{raise, through};
-ghost use Rattle.beat.specs.Beat.{ties_of, to_low, candidate_of, leader_of, HasTotal};
+ghost use Rattle.choosing.specs.Choosing.{by_value, beats};
+ghost use Rattle.choosing.specs.Going.{through};
+ghost use Rattle.beat.specs.Beat.{ties_of, candidate_of, leader_of, HasTotal};
 
-use crate::{Candidate, Leader, Ties};
-use fraction::Ranking;
+use crate::{Candidate, Ties};
 use fraction::inner::ordered;
+use std::cmp::Ordering;
 
 // The best so far, with a candidate whose value is listed by the domain; one that is not listed is none.
-pub fn with_listed(ties: Ties, best: Leader, x: Candidate, domain: u32) -> Leader
+#[tactic(auto, using(crate::specs::BeatLaws::unlisted, crate::specs::BeatLaws::standing))]
+pub fn with_listed(
+    ties: Ties,
+    best: Option<Candidate>,
+    x: Candidate,
+    domain: u32,
+) -> Option<Candidate>
     requires { (x.value < values) × (lists domain x.value ≡ true → 0 < x.total) × HasTotal best }
     ensures result_value { leader_of result ≡ through (ties_of ties) (leader_of best) (keep (lists domain x.value) (candidate_of x) []) }
     ensures has_total { HasTotal result }
 {
-    let value = x.value;
-    if (domain >> value) % 2 != 1 {
+    if (domain >> x.value) % 2 != 1 {
         return best;
     }
-    raise(ties, best, x)
-}
-
-// The best so far, with one candidate more.
-fn raise(ties: Ties, best: Leader, x: Candidate) -> Leader
-    requires { (0 < x.total) × HasTotal best }
-    ensures result_value { leader_of result ≡ raise (ties_of ties) (leader_of best) (candidate_of x) }
-    ensures has_total { HasTotal result }
-{
     match best {
-        Leader::Nobody => Leader::Leads(x),
-        Leader::Leads(y) => {
-            if beats(ties, x, y) {
-                Leader::Leads(x)
-            } else {
-                Leader::Leads(y)
-            }
-        }
+        Some(y) if !beats(ties, x, y) => best,
+        _ => Some(x),
     }
 }
 
-// Whether x beats y: by their densities, as exact fractions, and else by the ties.
+// Whether x beats y: by their densities, as exact fractions, and where these are equal by the lowest cell, then by the
+// value that goes first, then by the lowest row.
+#[tactic(auto, using(crate::specs::BeatLaws::comparing))]
 fn beats(ties: Ties, x: Candidate, y: Candidate) -> bool
     requires { (0 < x.total) × (0 < y.total) }
     ensures { result ≡ beats (ties_of ties) (candidate_of x) (candidate_of y) }
 {
-    match by_density(x, y) {
-        Ranking::Above => true,
-        Ranking::Below => false,
-        Ranking::Equal => goes_first(ties, x, y),
-        Ranking::Refused(_) => false,
-    }
-}
-
-// How the density of x stands to that of y.
-fn by_density(x: Candidate, y: Candidate) -> Ranking
-    requires { (0 < x.total) × (0 < y.total) }
-    ensures { told result ≡ says (by_density (candidate_of x) (candidate_of y)) }
-{
     ordered(x.count, x.total, y.count, y.total)
+        .then(y.cell.cmp(&x.cell))
+        .then(by_value(ties, x, y))
+        .then(y.row.cmp(&x.row))
+        .is_gt()
 }
 
-// Whether x goes first where the densities are equal: the lowest cell, then the value by the tie order, then the lowest row.
-fn goes_first(ties: Ties, x: Candidate, y: Candidate) -> bool
-    ensures { result ≡ is_above (by_ties (ties_of ties) (candidate_of x) (candidate_of y)) }
+// How x stands to y by their values alone.
+fn by_value(ties: Ties, x: Candidate, y: Candidate) -> Ordering
+    ensures { word result ≡ by_value (ties_of ties) (candidate_of x) (candidate_of y) }
 {
-    if x.cell < y.cell {
-        return true;
-    }
-    if y.cell < x.cell {
-        return false;
-    }
-    if x.value < y.value {
-        return lowest(ties);
-    }
-    if y.value < x.value {
-        return !lowest(ties);
-    }
-    x.row < y.row
-}
-
-// Whether ties of values go to the lowest.
-fn lowest(ties: Ties) -> bool
-    ensures { result ≡ to_low ties }
-{
+    let lowest = y.value.cmp(&x.value);
     match ties {
-        Ties::Lowest => true,
-        Ties::Highest => false,
+        Ties::Lowest => lowest,
+        Ties::Highest => lowest.reverse(),
     }
 }

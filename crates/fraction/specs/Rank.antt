@@ -1,16 +1,21 @@
 -- How two fractions stand to each other, and what `rank` says of them. Definitions only.
 use Prim.Native.Nat.{ℕ, ◌*◌, compare, Ordering}
-use Rattle.std.specs.Prelude.{eqb}
-use Rattle.told.specs.Told.{Told, refused, says, when, first, answer}
-use Rattle.fraction.specs.declared.Ranking.{Ranking}
-use Rattle.fraction.specs.declared.Ranking.TheVariants.{Below, Equal, Above, Refused}
+use Rattle.std.specs.Prelude.{eqb, Result, Ok, Err}
+use Rattle.std.specs.declared.cmp.Ordering.{Ordering as Ranking}
+use Rattle.std.specs.declared.cmp.Ordering.TheVariants.{Less, Equal, Greater}
+use Rattle.told.specs.declared.Refusal.{Refusal}
+use Rattle.told.specs.Told.{Told, refused, says, when, first, answer, number_of}
 
--- document 01's number or word for every case of the answer
-abbrev pub told : Ranking → Told Ordering
-told Below = says Ordering.lt
-told Equal = says Ordering.eq
-told Above = says Ordering.gt
-told (Refused n) = refused n
+-- below, equal or above, for every case of the code's order
+abbrev pub word : Ranking → Ordering
+word Less = Ordering.lt
+word Equal = Ordering.eq
+word Greater = Ordering.gt
+
+-- the number for no, or the word, for every case of the answer
+abbrev pub told : Result Ranking Refusal → Told Ordering
+told (Ok o) = says (word o)
+told (Err e) = refused (number_of e)
 
 -- c1 / t1 stands to c2 / t2 as c1 * t2 to c2 * t1
 unfoldable pub order : ℕ → ℕ → ℕ → ℕ → Ordering

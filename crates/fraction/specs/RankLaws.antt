@@ -1,17 +1,12 @@
 -- Laws of the order of two fractions: its whole parts decide, or else the remainders, swapped. Assumes nothing.
-use Rattle.std.specs.Prelude.{◌≡◌, ◌≢◌, ◌⊎◌, Bool, true, false, ltb, eqb}
+use Rattle.std.specs.Prelude.{◌≡◌, ◌≢◌, ◌⊎◌, Bool, true, false, ltb}
 use Rattle.std.proofs.Math.Path.{refl}
 use Rattle.std.proofs.Common.{sym, ap, ap₂, ◌∙◌, ⊎_elim, ltb-true, ltb-false, zero-add, suc-add, zero-mul, mul_assoc, add-mul, mul-pos, div-add-mod', arith}
-use Rattle.std.proofs.lemmas.Bool.{eqb-false}
 use Prim.Native.Nat.compare
 use Prim.Native.Nat.{ℕ, zero, suc, ◌+◌, ◌*◌, ◌/◌, ◌%◌, ◌<◌, compare, Ordering}
 use Rattle.std.proofs.Math.Nat.{mul_comm, lt_of_not-le, not-le_of_lt}
 use Rattle.std.specs.Float.Ieee.Nearest.{div_mono}
-use Rattle.told.specs.Told.{Told, refused, says, when}
-use Rattle.told.proofs.ToldLaws.{neither, not_held}
-use Rattle.fraction.specs.declared.Ranking.{Ranking}
-use Rattle.fraction.specs.declared.Ranking.TheVariants.{Below, Equal, Above, Refused}
-use Rattle.fraction.specs.Rank.{told, order, rank_refuses}
+use Rattle.fraction.specs.Rank.{order}
 
 pub compare_lt : (a b : ℕ) → a < b → compare a b ≡ Ordering.lt
 compare_lt zero zero h = absurd (omega arith)
@@ -86,24 +81,3 @@ module _ (c1 t1 c2 t2 : ℕ) (p1 : 0 < t1) (p2 : 0 < t2) where
   pub swapped : c1 / t1 ≡ c2 / t2 → order t2 (c2 % t2) t1 (c1 % t1) ≡ order c1 t1 c2 t2
   unfolding order
   swapped e = rw (mul_comm t2, mul_comm t1) (sym (by_rest e))
-
--- what is known of totals that are not refused
-pub totals : (y t1 t2 : ℕ) → y ≡ rank_refuses t1 t2 → y ≡ 0 → (0 < t1) × (0 < t2)
-totals y t1 t2 e z =
-    let both = neither (when (eqb t1 0) 5) (when (eqb t2 0) 5) (sym e ∙ z) in
-    let some1 = eqb-false t1 0 (not_held (eqb t1 0) 4 both.0) in
-    let some2 = eqb-false t2 0 (not_held (eqb t2 0) 4 both.1) in
-    (omega arith, omega arith)
-
--- an answer is read back from what it tells
-abbrev pub answer_of : Told Ordering → Ranking
-answer_of (says Ordering.lt) = Below
-answer_of (says Ordering.eq) = Equal
-answer_of (says Ordering.gt) = Above
-answer_of (refused n) = Refused n
-
-pub answer_back : (r : Ranking) → answer_of (told r) ≡ r
-answer_back Below = refl
-answer_back Equal = refl
-answer_back Above = refl
-answer_back (Refused n) = refl

@@ -1,17 +1,17 @@
 // Calls for the floors above, which have made sure of what each requires.
-ghost use Rattle.std.specs.Prelude.{◌≡◌, ltb};
+ghost use Rattle.std.specs.Prelude.{◌≡◌};
 ghost use Prim.Native.Nat.{◌<◌, ◌≤◌, ◌^◌, compare};
-ghost use Rattle.told.specs.Told.{says};
-ghost use Rattle.fraction.specs.Rank.{told, order};
+ghost use Rattle.fraction.specs.Rank.{word, order};
 ghost use Rattle.fraction.specs.Share.{share_of};
 
-use crate::Ranking;
+use std::cmp::Ordering;
 
 // Ranks c1 / t1 against c2 / t2. Where the whole parts are equal, r1 / t1 stands to r2 / t2 as t2 / r2
 // stands to t1 / r1: the same question over smaller denominators.
-pub fn ordered(c1: u64, t1: u64, c2: u64, t2: u64) -> Ranking
+#[tactic(auto, using(crate::specs::RankLaws::by_whole, crate::specs::RankLaws::by_zero, crate::specs::RankLaws::swapped))]
+pub fn ordered(c1: u64, t1: u64, c2: u64, t2: u64) -> Ordering
     requires { (0 < t1) × (0 < t2) }
-    ensures { told result ≡ says (order c1 t1 c2 t2) }
+    ensures { word result ≡ order c1 t1 c2 t2 }
 {
     let q1 = c1 / t1;
     let q2 = c2 / t2;
@@ -26,24 +26,11 @@ pub fn ordered(c1: u64, t1: u64, c2: u64, t2: u64) -> Ranking
     ordered(t2, r2, t1, r1)
 }
 
-// Ranks two whole numbers.
-fn compared(a: u64, b: u64) -> Ranking
-    ensures { told result ≡ says (compare a b) }
+// The one comparison that every ranking comes down to.
+fn compared(a: u64, b: u64) -> Ordering
+    ensures { word result ≡ compare a b }
 {
-    if less(a, b) {
-        return Ranking::Below;
-    }
-    if less(b, a) {
-        return Ranking::Above;
-    }
-    Ranking::Equal
-}
-
-// The one test that every ranking comes down to.
-fn less(a: u64, b: u64) -> bool
-    ensures { result ≡ ltb a b }
-{
-    a < b
+    a.cmp(&b)
 }
 
 // The share of a count in its total as a double, for display: it decides nothing.

@@ -1,16 +1,16 @@
 -- One layer from the layer beside it: what moving and adding does to its numbers, and that steps lead from number to number. Assumes nothing.
-use Rattle.std.specs.Prelude.{◌≡◌, Bool, ◌&&◌, List, ◌++◌, ℕ, zero, suc, ◌+◌, ◌-◌, ◌*◌, ◌≤◌, ◌<◌, ◌^◌, leb, eqb, length, get_or, take, drop}
+use Rattle.std.specs.Prelude.{◌≡◌, Bool, ◌&&◌, List, ℕ, zero, suc, ◌+◌, ◌-◌, ◌*◌, ◌≤◌, ◌<◌, leb, eqb, length, get_or, take, drop}
 use Rattle.std.proofs.Math.Path.{refl}
-use Rattle.std.proofs.Common.{sym, ap, ap₂, ◌∙◌, zero-mul, mul-le-mul, arith, length-take, length-drop, get_or-take, get_or-drop, get_or-append-add}
+use Rattle.std.proofs.Common.{sym, ap, ◌∙◌, zero-mul, mul-le-mul, arith, get_or-take, get_or-drop}
 use Rattle.std.proofs.Math.Bool.{true, false}
 use borrow.Author.Tests.{leb-true, leb-false, le-leb, lt-leb}
 use Rattle.std.proofs.Math.Dec.{eqb-zero-suc}
-use Rattle.std.proofs.Math.ListN.{get_or-append}
 use Rattle.told.specs.Told.{when}
 use Rattle.sizes.specs.Sizes.{values, highest, sums}
-use Rattle.listing.specs.Written.{Written}
-use Rattle.listing.specs.Sums.{sum_cong}
-use Rattle.counting.specs.Counting.{within, listed, forward, backward}
+use Rattle.listing.specs.Listing.{sum_over, below}
+use Rattle.listing.specs.Sums.{and_right, when_cong, sum_cong, sum_nil, sum_turn, sum_part}
+use Rattle.counting.specs.Counting.{within, lists, listed, forward, backward}
+use Rattle.counting.proofs.Domains.{sum_listed}
 use Rattle.counting.proofs.Tables.{forward_suc, backward_suc, backward_high}
 use Rattle.layers.specs.Steps.{moved, step}
 
@@ -39,13 +39,7 @@ module _ (t : List ℕ) (at rise fall b : ℕ) where
       go true = refl
       go false = refl
 
-  -- moved that far, all of it is gone
-  pub moved_far : highest < rise + fall → moved t at rise fall b ≡ 0
-  moved_far h = go (leb rise b) refl
-    where
-      go : (q : Bool) → leb rise b ≡ q → moved t at rise fall b ≡ 0
-      go true e = let l = leb-true rise b e in moved_high (omega arith)
-      go false e = moved_low (leb-false rise b e)
+pub ruleset moves = (moved_in, moved_low, moved_high)
 
 -- moved one way only
 pub moved_up : (t : List ℕ) (at s b : ℕ) → b < sums → moved t at s 0 b ≡ when (leb s b) (get_or t (at + (b - s)) 0)
@@ -66,74 +60,45 @@ moved_down t at s b = go (leb (b + s) highest) refl
         moved_in t at 0 s b (omega arith) (leb-true (b + s) highest e) ∙ ap (λ (k : ℕ). get_or t (at + k) 0) same
     go false e = moved_high t at 0 s b (leb-false (b + s) highest e)
 
--- ---- a part of the layer added to a part of another
+-- ---- a layer taken out of its table
 
-mid_at : (l : List ℕ) (a m k : ℕ) → k < m → get_or (take m (drop a l)) k 0 ≡ get_or l (a + k) 0
-mid_at l a m k h = get_or-take m (drop a l) k 0 h ∙ get_or-drop a l k 0
+moved_part : (t : List ℕ) (at m rise fall b : ℕ) → m ≡ sums → moved (take m (drop at t)) 0 rise fall b ≡ moved t at rise fall b
+unfolding moved
+moved_part t at m rise fall b e = when_cong (leb rise b && leb (b + fall) highest) _ _ here
+  where
+    here : (leb rise b && leb (b + fall) highest) ≡ true → get_or (take m (drop at t)) (0 + (b + fall - rise)) 0 ≡ get_or t (at + (b + fall - rise)) 0
+    here h =
+        let l = leb-true (b + fall) highest (and_right (leb rise b) (leb (b + fall) highest) h) in
+        let z : 0 + (b + fall - rise) ≡ b + fall - rise = omega arith in
+        rw z (get_or-take m (drop at t) (b + fall - rise) 0 (omega arith) ∙ get_or-drop at t (b + fall - rise) 0)
 
-mid_length : (l : List ℕ) (a m : ℕ) → a + m ≤ length l → length (take m (drop a l)) ≡ m
-mid_length l a m h = omega (arith, length-take m (drop a l), length-drop a l)
+pub step_part : (t : List ℕ) (at m rise fall d b : ℕ) → m ≡ sums → step (take m (drop at t)) 0 rise fall d b ≡ step t at rise fall d b
+step_part t at m rise fall d b e = sum_cong _ _ (listed d) (λ v. moved_part t at m (rise * v) (fall * v) b e)
 
--- k and m are n, as the code has it: end less start
-module _ (out t : List ℕ) (at rise fall n k m : ℕ) (whole : length out ≡ sums) (room : at + sums ≤ length t) (parts : rise + fall + n ≡ sums) (ek : k ≡ n) (em : m ≡ n) where
-  abbrev into : List ℕ
-  into = take k (drop rise out)
+-- ---- value after value
 
-  abbrev from : List ℕ
-  from = take m (drop (at + fall) t)
+-- what the values below v bring to the number at b of the layer beside `from`
+unfoldable pub brought : List ℕ → ℕ → ℕ → ℕ → ℕ → ℕ → ℕ
+brought from rise fall d b v = sum_over (λ u. when (lists d u) (moved from 0 (rise * u) (fall * u) b)) (below v)
 
-  term : (j : ℕ) → j < n → get_or into j 0 + get_or from j 0 ≡ get_or out (rise + j) 0 + moved t at rise fall (rise + j)
-  term j l =
-      let e : at + fall + j ≡ at + (rise + j + fall - rise) = omega arith in
-      ap₂ ◌+◌ (mid_at out rise k j (omega arith))
-      (mid_at t (at + fall) m j (omega arith) ∙ ap (λ (i : ℕ). get_or t i 0) e ∙ sym (moved_in t at rise fall (rise + j) (omega arith) (omega arith)))
+module _ (from : List ℕ) (rise fall d b : ℕ) where
+  pub brought_none : brought from rise fall d b 0 ≡ 0
+  unfolding brought
+  brought_none = sum_nil _
 
-  pub part_fits : ((b : ℕ) → b < sums → get_or out b 0 + moved t at rise fall b < 2 ^ 64)
-      → (length into ≡ length from) × ((j : ℕ) → j < length from → get_or into j 0 + get_or from j 0 < 2 ^ 64)
-  part_fits h =
-      let li = mid_length out rise k (omega arith) in
-      let lf = mid_length t (at + fall) m (omega arith) in
-      (li ∙ ek ∙ sym em ∙ sym lf, λ j l. rw (term j (omega arith)) (h (rise + j) (omega arith)))
+  pub brought_more : (v : ℕ) → brought from rise fall d b (v + 1) ≡ brought from rise fall d b v + when (lists d v) (moved from 0 (rise * v) (fall * v) b)
+  unfolding brought
+  brought_more v = sym (sum_turn _ v)
 
-  pub part_added : (ys : List ℕ) → length ys ≡ length into → Written (λ j. get_or into j 0 + get_or from j 0) into ys 0 (length from)
-      → (b : ℕ) → b < sums → get_or (take rise out ++ (ys ++ drop k (drop rise out))) b 0 ≡ get_or out b 0 + moved t at rise fall b
-  part_added ys ly w b l = go (leb rise b) refl (leb (b + fall) highest) refl
-    where
-      cut : length (take rise out) ≡ rise
-      cut = omega (arith, length-take rise out)
+  pub brought_all : (v : ℕ) → v ≡ values → brought from rise fall d b v ≡ step from 0 rise fall d b
+  unfolding brought
+  brought_all v e = rw e (sym (sum_listed d _))
 
-      many : length ys ≡ n
-      many = ly ∙ mid_length out rise k (omega arith) ∙ ek
+  pub brought_part : (v : ℕ) → v < values → brought from rise fall d b v + when (lists d v) (moved from 0 (rise * v) (fall * v) b) ≤ step from 0 rise fall d b
+  unfolding brought
+  brought_part v h = rw (sum_listed d) (sum_part _ v values h)
 
-      none : moved t at rise fall b ≡ 0 → get_or out b 0 ≡ get_or out b 0 + moved t at rise fall b
-      none e = omega (arith, e)
-
-      past : rise ≤ b → get_or (take rise out ++ (ys ++ drop k (drop rise out))) b 0 ≡ get_or (ys ++ drop k (drop rise out)) (b - rise) 0
-      past h =
-          let e : length (take rise out) + (b - rise) ≡ b = omega (arith, cut) in
-          rw e at (get_or-append-add (take rise out) (ys ++ drop k (drop rise out)) (b - rise) 0)
-
-      go : (p : Bool) → leb rise b ≡ p → (q : Bool) → leb (b + fall) highest ≡ q
-          → get_or (take rise out ++ (ys ++ drop k (drop rise out))) b 0 ≡ get_or out b 0 + moved t at rise fall b
-      go false p q r =
-          let x = leb-false rise b p in
-          get_or-append (take rise out) (ys ++ drop k (drop rise out)) 0 b (omega (arith, cut)) ∙ get_or-take rise out b 0 x ∙ none (moved_low t at rise fall b x)
-      go true p true r =
-          let x = leb-true rise b p in
-          let y = leb-true (b + fall) highest r in
-          let e : rise + (b - rise) ≡ b = omega arith in
-          past x
-          ∙ get_or-append ys (drop k (drop rise out)) 0 (b - rise) (omega (arith, many))
-          ∙ w.inside (b - rise) (omega arith) (omega (arith, mid_length t (at + fall) m (omega arith)))
-          ∙ rw e at (term (b - rise) (omega arith))
-      go true p false r =
-          let x = leb-true rise b p in
-          let y = leb-false (b + fall) highest r in
-          let e : length ys + (b - rise - n) ≡ b - rise = omega (arith, many) in
-          let z : rise + (k + (b - rise - n)) ≡ b = omega arith in
-          past x
-          ∙ rw e at (get_or-append-add ys (drop k (drop rise out)) (b - rise - n) 0)
-          ∙ get_or-drop k (drop rise out) (b - rise - n) 0 ∙ get_or-drop rise out (k + (b - rise - n)) 0 ∙ ap (λ (i : ℕ). get_or out i 0) z ∙ none (moved_high t at rise fall b y)
+pub ruleset brings = (brought_more, brought_all, brought_part)
 
 -- ---- steps lead from the numbers at one i to those beside it
 

@@ -1,17 +1,19 @@
 -- Laws of sets of sums, word by word: what the loops over a set's words have, and a set between two empty ones. Assumes nothing.
 use Rattle.std.specs.Prelude.{◌≡◌, refl, Bool, true, false, ◌&&◌, ◌||◌, List, ℕ, zero, suc, ◌+◌, ◌-◌, ◌*◌, ◌/◌, ◌%◌, ◌^◌, ◌≤◌, ◌<◌, leb, length, set, replicate}
-use Rattle.std.proofs.Common.{sym, ◌∙◌, not-suc-le-zero, add-zero, length-set, get_or-set_same, get_or-set_other, below_more, le-leb, leb-true, leb-false}
+use Rattle.std.proofs.Common.{rules, sym, ◌∙◌, not-suc-le-zero, add-zero, length-set, get_or-set_same, get_or-set_other, below_more, le-leb, leb-true, leb-false}
 use Rattle.std.proofs.Math.Path.{ap, ap₂}
 use native.Mathlib.Omega.{arith}
 use Rattle.std.proofs.Math.ListN.{get_or}
 use Rattle.std.specs.Int.Bits.{bit_and, bit_or}
+use Rattle.std.specs.List.{list_any, range_with_len}
+use borrow.Rule.Slice.PartMut.{put_mid}
+use Rattle.std.proofs.lemmas.List.{places}
 use Rattle.std.proofs.lemmas.Nat.{and_le_l}
 use Rattle.std.proofs.lemmas.Bool.{lt-leb}
 use Rattle.sizes.specs.Sizes.{sums, highest}
-use Rattle.listing.specs.Writing.{written_none, written_more}
 use Rattle.counting.specs.Counting.{within}
 use Rattle.words.specs.Words.{word_bits, set_words, bit, has, any, above_zero, both, Joined, Put, Padded}
-use Rattle.words.specs.Bits.{bit_or_lem, bit_and_lem, bit_ones, has_word, has_zeros, by_word, any_plus, any_cong, above_bits}
+use Rattle.words.specs.Bits.{bit_or_lem, bit_and_lem, bit_ones, has_word, has_zeros, by_word, any_zero, any_more, any_plus, any_cong, above_bits}
 
 -- the words of a set have a bit for each sum
 pub set_fits : sums ≡ word_bits * set_words
@@ -45,35 +47,52 @@ module _ (a t : List ℕ) (p : ℕ) where
   pub joined_all : (u : List ℕ) → Joined a t p u set_words → (b : ℕ) → b < sums → has u b ≡ (has a b || has t (p + b))
   joined_all u s b h = by_word (λ (b : ℕ). has u b ≡ (has a b || has t (p + b))) set_words s.done b h
 
--- ---- what a word of one table and a window of another have in common
+-- ---- what a table and a window of another have in common
 
-module _ (f : List ℕ) (a : ℕ) (g : List ℕ) (p j x : ℕ) (fits : get_or f (a + j) 0 < 2 ^ word_bits)
-    (window : (c : ℕ) → c < word_bits → bit x c ≡ has g (word_bits * (p / word_bits + j) + (p % word_bits + c))) where
-  pub both_more : any (both f (word_bits * a) g p) (word_bits * j) ≡ false
-      → any (both f (word_bits * a) g p) (word_bits * (j + 1)) ≡ above_zero (bit_and (get_or f (a + j) 0) x)
-  both_more none =
-      ap (any (both f (word_bits * a) g p)) (let e : word_bits * (j + 1) ≡ word_bits * j + word_bits = omega arith in e)
-      ∙ any_plus (both f (word_bits * a) g p) (word_bits * j) word_bits
-      ∙ ap (λ (t : Bool). t || any (λ c. both f (word_bits * a) g p (word_bits * j + c)) word_bits) none
-      ∙ any_cong (λ c. both f (word_bits * a) g p (word_bits * j + c)) (bit (bit_and (get_or f (a + j) 0) x)) word_bits (λ c k.
-      ap₂ ◌&&◌
-      (ap (has f) (let e : word_bits * a + (word_bits * j + c) ≡ word_bits * (a + j) + c = omega arith in e) ∙ has_word f (a + j) c k)
-      (ap (has g) (sym (at_word p j c)) ∙ sym (window c k))
-      ∙ sym (bit_and_lem (get_or f (a + j) 0) x c))
-      ∙ sym (above_bits word_bits (bit_and (get_or f (a + j) 0) x) (omega (arith, and_le_l (get_or f (a + j) 0) x)))
+-- a word and a window of 64 bits
+module _ (f : List ℕ) (i : ℕ) (g : List ℕ) (q m x : ℕ) (fits : get_or f i 0 < 2 ^ word_bits) (window : (c : ℕ) → c < word_bits → bit x c ≡ has g (word_bits * q + (m + c))) where
+  pub word_shares : above_zero (bit_and (get_or f i 0) x) ≡ any (both f (word_bits * i) g (word_bits * q + m)) word_bits
+  word_shares =
+      above_bits word_bits (bit_and (get_or f i 0) x) (omega (arith, and_le_l (get_or f i 0) x))
+      ∙ any_cong _ _ word_bits (λ c k.
+      bit_and_lem (get_or f i 0) x c
+      ∙ sym (ap₂ ◌&&◌ (has_word f i c k) (ap (has g) (let e : word_bits * q + m + c ≡ word_bits * q + (m + c) = omega arith in e) ∙ sym (window c k))))
+
+-- and word by word
+range_any : (p : ℕ → Bool) (a n : ℕ) → list_any p (range_with_len a n) ≡ any (λ k. p (a + k)) n
+range_any p a zero = sym (any_zero _)
+range_any p a (suc n) =
+    ap (λ (t : Bool). p a || t) (range_any p (a + 1) n)
+    ∙ ap₂ ◌||◌ (sym (any_more (λ k. p (a + k)) 0 ∙ ap (λ (t : Bool). t || p (a + 0)) (any_zero _) ∙ ap p (add-zero a))) (any_cong _ _ n (λ k h. ap p (let e : a + 1 + k ≡ a + (1 + k) = omega arith in e)))
+    ∙ sym (ap (any (λ k. p (a + k))) (let e : suc n ≡ 1 + n = omega arith in e) ∙ any_plus (λ k. p (a + k)) 1 n)
+
+words_any : (p : ℕ → Bool) (n : ℕ) → any (λ j. any (λ c. p (word_bits * j + c)) word_bits) n ≡ any p (word_bits * n)
+words_any p zero = any_zero _ ∙ sym (any_zero p)
+words_any p (suc n) =
+    ap (any (λ j. any (λ c. p (word_bits * j + c)) word_bits)) (let e : suc n ≡ n + 1 = omega arith in e)
+    ∙ any_more _ n
+    ∙ ap (λ (t : Bool). t || any (λ c. p (word_bits * n + c)) word_bits) (words_any p n)
+    ∙ sym (ap (any p) (let e : word_bits * suc n ≡ word_bits * n + word_bits = omega arith in e) ∙ any_plus p (word_bits * n) word_bits)
+
+pub words_share : (f : List ℕ) (a : ℕ) (g : List ℕ) (p n : ℕ)
+    → list_any (λ j. any (both f (word_bits * (a + j)) g (word_bits * (p / word_bits + j) + p % word_bits)) word_bits) (range_with_len 0 n) ≡ any (both f (word_bits * a) g p) (word_bits * n)
+words_share f a g p n =
+    range_any _ 0 n
+    ∙ any_cong _ _ n (λ j h. any_cong _ _ word_bits (λ c k.
+    ap₂ (λ (x y : ℕ). has f x && has g y)
+    (let e : word_bits * (a + (0 + j)) + c ≡ word_bits * a + (word_bits * j + c) = omega arith in e)
+    (let e : word_bits * (p / word_bits + (0 + j)) + p % word_bits + c ≡ p + (word_bits * j + c) = omega arith in e)))
+    ∙ words_any (both f (word_bits * a) g p) n
 
 -- ---- a set written into a table
 
-pub put_none : (l t : List ℕ) (at : ℕ) → Put l t t at 0
+pub put_part : (l t : List ℕ) (at : ℕ) → length l ≡ set_words → at + set_words ≤ length t → Put l t (put_mid at (at + set_words - at) t l) at set_words
 unfolding Put
-put_none l t at = rw (add-zero at) (written_none _ t at)
-
-pub put_more : (l t u : List ℕ) (at k : ℕ) → at + k < length u → Put l t u at k → Put l t (set u (at + k) (get_or l k 0)) at (k + 1)
-unfolding Put
-put_more l t u at k h s =
-    let e : at + (k + 1) ≡ at + k + 1 = omega arith in
-    let here : k ≡ at + k - at = omega arith in
-    rw e (written_more _ t u at (at + k) _ (omega arith) h (ap (λ (n : ℕ). get_or l n 0) here) s)
+put_part l t at e h = record {
+  inside = λ k m n. search (rules, places);
+  early = λ k m. search (rules, places);
+  late = λ k m. search (rules, places);
+}
 
 module _ (l t u : List ℕ) (at : ℕ) (s : Put l t u at set_words) where
   pub put_in : (b : ℕ) → b < sums → has u (word_bits * at + b) ≡ has l b

@@ -7,6 +7,9 @@ ghost use Rattle.words.specs.Words.{word_bits, set_words, bit, has, any, both, P
 use crate::{SET_WORDS, WORD_BITS};
 use sizes::{HIGHEST, SUMS};
 
+// A bit for each sum from 0 to 511.
+pub type SumSet = [u64; SET_WORDS];
+
 // A word of a table as it stands from bit m of word q on: the one place that reads across two words.
 fn window(t: &[u64], q: usize, m: usize) -> u64
     requires { (q + 1 < length t.now) × (m < word_bits) }
@@ -16,19 +19,24 @@ fn window(t: &[u64], q: usize, m: usize) -> u64
 }
 
 // The set with the sums that a table has from bit p on.
-pub fn joined(mut set: [u64; SET_WORDS], t: &[u64], p: usize) -> [u64; SET_WORDS]
+pub fn joined(mut set: SumSet, t: &[u64], p: usize) -> SumSet
     requires { p / word_bits + set_words < length t.now }
     ensures { (b : ℕ) → b < sums → has result b ≡ (has set b || has t.now (p + b)) }
 {
     let q = p / WORD_BITS;
     let m = p % WORD_BITS;
-    let mut j: usize = 0;
-    while j < SET_WORDS {
-        let x = window(t, q + j, m);
-        set[j] = set[j] | x;
-        j += 1;
+    for j in 0..SET_WORDS {
+        set[j] |= window(t, q + j, m);
     }
     set
+}
+
+// Whether word i of a table and another from bit m of word q on have a bit in common.
+fn shares(f: &[u64], i: usize, g: &[u64], q: usize, m: usize) -> bool
+    requires { (i < length f.now) × (q + 1 < length g.now) × (m < word_bits) }
+    ensures { result ≡ any (both f.now (word_bits * i) g.now (word_bits * q + m)) word_bits }
+{
+    f[i] & window(g, q, m) != 0
 }
 
 // Whether a table from word a on and another from bit p on have a sum in common.
@@ -38,45 +46,33 @@ pub fn meets(f: &[u64], a: usize, g: &[u64], p: usize) -> bool
 {
     let q = p / WORD_BITS;
     let m = p % WORD_BITS;
-    let mut j: usize = 0;
-    while j < SET_WORDS {
-        let x = window(g, q + j, m);
-        if f[a + j] & x != 0 {
-            return true;
-        }
-        j += 1;
-    }
-    false
+    (0..SET_WORDS).any(|j| shares(f, a + j, g, q + j, m))
 }
 
 // Writes a set into a table, from word `at` on.
-pub fn put(t: &mut [u64], at: usize, set: [u64; SET_WORDS])
+pub fn put(t: &mut [u64], at: usize, set: SumSet)
     requires { at + set_words ≤ length t.old }
     ensures { Put set t.old t.new at set_words }
 {
-    let mut k: usize = 0;
-    while k < SET_WORDS {
-        t[at + k] = set[k];
-        k += 1;
-    }
+    t[at..at + SET_WORDS].copy_from_slice(&set);
 }
 
 // A set between two empty ones.
-fn padded(set: [u64; SET_WORDS]) -> [u64; 3 * SET_WORDS]
+fn padded(set: SumSet) -> [u64; 3 * SET_WORDS]
     ensures { Padded set result }
 {
-    let mut t = [0u64; 3 * SET_WORDS];
+    let mut t = [0; 3 * SET_WORDS];
     put(&mut t, SET_WORDS, set);
     t
 }
 
 // The set of the sums from low to high: those from 0 to high - low, moved up by low.
-pub fn range(low: usize, high: usize) -> [u64; SET_WORDS]
+pub fn range(low: usize, high: usize) -> SumSet
     requires { (low ≤ high) × (high ≤ highest) }
     ensures { (b : ℕ) → b < sums → has result b ≡ within low high b }
 {
-    let none = [0u64; SET_WORDS];
-    let all = padded([18446744073709551615u64; SET_WORDS]);
+    let none = [0; SET_WORDS];
+    let all = padded([u64::MAX; SET_WORDS]);
     let first = joined(none, &all, SUMS + HIGHEST - (high - low));
     let moved = padded(first);
     joined(none, &moved, SUMS - low)

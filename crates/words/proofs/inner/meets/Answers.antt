@@ -1,40 +1,13 @@
--- `inner::meets` meets its contract: no sum in common among the first j words, and those of word j are common bits of two words. Assumes nothing.
-use mathlib.Core.Path.{◌≡◌, sym, ap, ◌∙◌}
-use mathlib.Core.Bool.{not}
-use Prim.Native.Nat.{◌+◌, ◌*◌}
-use native.Mathlib.Omega.{arith}
-use lib.Bits.{bit_and}
-use lib.ListN.{get_or}
-use borrow.Author.Tests.{eq-eqb, ne_eqb}
-use Rattle.sizes.specs.Sizes.{sums}
-use Rattle.words.specs.Words.{word_bits, set_words, any, above_zero, both}
-use Rattle.words.specs.Bits.{any_zero, any_up}
-use Rattle.words.specs.Sets.{both_more}
-use borrow.Author.Rules.{rules}
+-- `inner::meets` meets its contract: a sum in common is one in some word and its window. Assumes nothing.
+use Rattle.std.proofs.Common.{ℕ, ◌*◌, ◌+◌, ◌/◌, ◌%◌, ◌∙◌, refl, rules}
+use Rattle.std.proofs.lemmas.Iterator.{YieldsList-from_range}
+use Rattle.std.proofs.lemmas.Iterator.Search.{any_from_yields_List}
+use Rattle.words.specs.Words.{word_bits, set_words, any, both}
+use Rattle.words.specs.Sets.{words_share}
 use Rattle.words.proofs.inner.meets.Goals as goal
-use Rattle.words.proofs.inner.meets.Goals.{After-shared_slice_known-in-loop-j-1}
-
-pub loop-j-init : goal.loop-j-init
-loop-j-init c = (search rules, any_zero _)
-
--- what the first j + 1 words have in common is what word j and its window have
-common : (c : After-shared_slice_known-in-loop-j-1)
-    → let a = c.args in
-    let l = c.loop-j in
-    any (both a.f.now (word_bits * a.a) a.g.now a.p) (word_bits * (l.j + 1)) ≡ above_zero (bit_and (get_or a.f.now (a.a + l.j) 0) c.window-x.result)
-common c =
-    let a = c.args in
-    let l = c.loop-j in
-    both_more _ a.a _ a.p l.j _ (c.shared_slice_known-in-loop-j-1.given (a.a + l.j)).fits c.window-x.ensures l.invariant.1
-
-pub returns-then-f-a-ne0 : goal.returns-then-f-a-ne0
-returns-then-f-a-ne0 c = sym (any_up _ _ sums (omega arith) (common (goal.at.returns-then-f-a-ne0 c).After-shared_slice_known-in-loop-j-1 ∙ ap not (ne_eqb _ _ c.if-f-a-ne0.true)))
-
-pub loop-j-preserved : goal.loop-j-preserved
-loop-j-preserved c = (search rules, common (goal.at.loop-j-preserved c).After-shared_slice_known-in-loop-j-1 ∙ ap not (eq-eqb _ _ c.if-f-a-ne0.false))
 
 pub returns : goal.returns
 returns c =
-    let l = c.loop-j in
-    let e : l.j ≡ set_words = omega arith in
-    sym (rw e at l.invariant.1)
+    let a = c.args in
+    let share = λ (j : ℕ). any (both a.f.now (word_bits * (a.a + j)) a.g.now (word_bits * (a.p / word_bits + j) + a.p % word_bits)) word_bits in
+    any_from_yields_List share _ _ _ c.any.ensures.ran (YieldsList-from_range 0 set_words set_words refl refl) (λ j b q k. search rules) ∙ words_share a.f.now a.a a.g.now a.p set_words
