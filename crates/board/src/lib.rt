@@ -10,7 +10,7 @@ pub const MARK: usize = 0x4C53;
 
 // A row of a board. Its first len places hold its cells' numbers and their weights; the others are spare.
 #[repr(C)]
-#[derive(Clone, Copy)]
+#[derive(Clone, Copy, Debug, PartialEq, Eq)]
 pub struct Row {
     pub len: usize,
     pub low: usize,
@@ -21,7 +21,7 @@ pub struct Row {
 
 // A board, with any numbers in it. Its first cells places hold domains and its first rows places rows; the others are spare.
 #[repr(C)]
-#[derive(Clone, Copy)]
+#[derive(Clone, Copy, Debug, PartialEq, Eq)]
 pub struct Board {
     pub cells: usize,
     pub domains: [u32; BOARD_CELLS],

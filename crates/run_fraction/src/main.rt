@@ -1,39 +1,24 @@
-// Runs document 01's examples on fractions, and the numbers at their ends.
+// Runs the scope document's examples on fractions, and the numbers at their ends.
 #![tactic(auto)]
 
 use fraction::inner::share;
-use fraction::{Ranking, rank};
-use std::io;
+use fraction::rank;
+use std::cmp::Ordering;
 use std::io::Write;
+use std::{fmt, io};
 
 // 2 to the 50th, the most that a total can be.
 const N: u64 = 1125899906842624;
 
-const LARGEST: u64 = 18446744073709551615;
+// A count in a total.
+#[derive(Clone, Copy)]
+struct Fraction(u64, u64);
 
-fn print<W: Write>(out: &mut W, text: &[u8]) -> io::Result<()> {
-    out.write_all(text)
-}
-
-fn print_fraction<W: Write>(out: &mut W, count: u64, total: u64) -> io::Result<()> {
-    write!(out, "{count}/{total}")
-}
-
-fn print_ranking<W: Write>(out: &mut W, ranking: Ranking) -> io::Result<()> {
-    match ranking {
-        Ranking::Below => print(out, b" below "),
-        Ranking::Equal => print(out, b" equal "),
-        Ranking::Above => print(out, b" above "),
-        Ranking::Refused(number) => write!(out, " refused {number} "),
+impl fmt::Display for Fraction {
+    fn fmt<W: fmt::Write>(&self, f: &mut fmt::Formatter<W>) -> fmt::Result {
+        let Fraction(count, total) = *self;
+        write!(f, "{count}/{total}")
     }
-}
-
-// One line: the first fraction, how it stands to the second, the second.
-fn show<W: Write>(out: &mut W, c1: u64, t1: u64, c2: u64, t2: u64) -> io::Result<()> {
-    print_fraction(out, c1, t1)?;
-    print_ranking(out, rank(c1, t1, c2, t2))?;
-    print_fraction(out, c2, t2)?;
-    print(out, b"\n")
 }
 
 fn main(rt: HostRuntime) -> io::Result<()> {
@@ -41,25 +26,38 @@ fn main(rt: HostRuntime) -> io::Result<()> {
     show_all(&mut out)
 }
 
+// One line: the first fraction, how it stands to the second, the second.
+fn show<W: Write>(out: &mut W, first: Fraction, second: Fraction) -> io::Result<()> {
+    write!(out, "{first} ")?;
+    match rank(first.0, first.1, second.0, second.1) {
+        Ok(Ordering::Less) => write!(out, "below")?,
+        Ok(Ordering::Equal) => write!(out, "equal")?,
+        Ok(Ordering::Greater) => write!(out, "above")?,
+        Err(refusal) => write!(out, "refused {refusal}")?,
+    }
+    writeln!(out, " {second}")
+}
+
 fn show_all<W: Write>(out: &mut W) -> io::Result<()> {
-    show(out, 10, 22, 5, 11)?;
-    show(out, N - 1, N, N - 2, N - 1)?;
-    show(out, N - 2, N - 1, N - 1, N)?;
+    let top = u64::MAX;
+    show(out, Fraction(10, 22), Fraction(5, 11))?;
+    show(out, Fraction(N - 1, N), Fraction(N - 2, N - 1))?;
+    show(out, Fraction(N - 2, N - 1), Fraction(N - 1, N))?;
     if share(N - 1, N) == share(N - 2, N - 1) {
-        print(out, b"the same double\n")?;
+        writeln!(out, "the same double")?;
     }
     if share(10, 22) == share(5, 11) {
-        print(out, b"the same double\n")?;
+        writeln!(out, "the same double")?;
     }
     if share(1, 2) == 0.5 {
-        print(out, b"1/2 is the double 0.5\n")?;
+        writeln!(out, "1/2 is the double 0.5")?;
     }
-    show(out, LARGEST, LARGEST, 1, 1)?;
-    show(out, LARGEST, LARGEST - 1, LARGEST - 1, LARGEST - 2)?;
-    show(out, LARGEST, 1, LARGEST - 1, 1)?;
-    show(out, 0, LARGEST, 1, LARGEST)?;
-    show(out, 0, 1, 0, LARGEST)?;
-    show(out, 1, 0, 1, 2)?;
-    show(out, 1, 2, 1, 0)?;
-    show(out, 0, 0, 0, 0)
+    show(out, Fraction(top, top), Fraction(1, 1))?;
+    show(out, Fraction(top, top - 1), Fraction(top - 1, top - 2))?;
+    show(out, Fraction(top, 1), Fraction(top - 1, 1))?;
+    show(out, Fraction(0, top), Fraction(1, top))?;
+    show(out, Fraction(0, 1), Fraction(0, top))?;
+    show(out, Fraction(1, 0), Fraction(1, 2))?;
+    show(out, Fraction(1, 2), Fraction(1, 0))?;
+    show(out, Fraction(0, 0), Fraction(0, 0))
 }
