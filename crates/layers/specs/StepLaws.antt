@@ -1,7 +1,7 @@
 -- One layer from the layer beside it: what moving and adding does to its numbers, and that steps lead from number to number. Assumes nothing.
 use Rattle.std.specs.Prelude.{◌≡◌, Bool, ◌&&◌, List, ℕ, zero, suc, ◌+◌, ◌-◌, ◌*◌, ◌≤◌, ◌<◌, leb, eqb, length, get_or, take, drop}
 use Rattle.std.proofs.Math.Path.{refl}
-use Rattle.std.proofs.Common.{sym, ap, ◌∙◌, zero-mul, mul-le-mul, arith, get_or-take, get_or-drop}
+use Rattle.std.proofs.Common.{sym, ap, ◌∙◌, zero-mul, arith, get_or-take, get_or-drop}
 use Rattle.std.proofs.Math.Bool.{true, false}
 use borrow.Author.Tests.{leb-true, leb-false, le-leb, lt-leb}
 use Rattle.std.proofs.Math.Dec.{eqb-zero-suc}
@@ -13,10 +13,6 @@ use Rattle.counting.specs.Counting.{within, lists, listed, forward, backward}
 use Rattle.counting.proofs.Domains.{sum_listed}
 use Rattle.counting.proofs.Tables.{forward_suc, backward_suc, backward_high}
 use Rattle.layers.specs.Steps.{moved, step}
-
--- the most that a weight times a value is
-pub heaviest : (w v : ℕ) → w ≤ 255 → v < values → w * v ≤ 7905
-heaviest w v h k = mul-le-mul {n₁ = w} {m₁ = v} {n₂ = 255} {m₂ = 31} h (omega arith)
 
 -- ---- a layer moved
 

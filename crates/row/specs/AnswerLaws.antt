@@ -1,13 +1,13 @@
 -- What is known of a row that is not refused. Assumes nothing.
-use Rattle.std.specs.Prelude.{◌≡◌, refl, not, List, ℕ, ◌<◌, eqb, ltb, leb, length}
-use Rattle.std.proofs.Common.{ap₂, eqb-true, ltb-false, leb-false}
+use Rattle.std.specs.Prelude.{◌≡◌, not, List, ℕ, ◌<◌, eqb, ltb, leb, length}
+use Rattle.std.proofs.Common.{eqb-true, ltb-false, leb-false}
 use Rattle.std.proofs.lemmas.Bool.{not-false}
 use Rattle.told.specs.Told.{when}
 use Rattle.told.proofs.ToldLaws.{neither, not_held}
 use Rattle.sizes.specs.Sizes.{values, table_size, length_refuses, limits_refuse}
 use Rattle.sizes.specs.SizeLaws.{length_sound, limits_sound}
 use Rattle.layers.specs.Steps.{Fillable}
-use Rattle.row.specs.Answers.{lists_refuse, place_refuses, row_refuses, tables}
+use Rattle.row.specs.Answers.{lists_refuse, place_refuses, row_refuses}
 
 -- a row and tables that 1, 2 and 3 let pass
 pub row_sound : (ws ds : List ℕ) (low high : ℕ) (forward backward : List ℕ) → row_refuses ws ds low high forward backward ≡ 0
@@ -32,7 +32,3 @@ pub place_sound : (cells place value : ℕ) → place_refuses cells place value 
 place_sound cells place value e =
     let both = neither (when (leb cells place) 4) _ e in
     (leb-false cells place (not_held (leb cells place) 3 both.0), leb-false values value (not_held (leb values value) 3 both.1))
-
--- tables are equal part by part
-pub same_tables : (f g h k : List ℕ) → f ≡ g → h ≡ k → tables f h ≡ tables g k
-same_tables f g h k p q = ap₂ tables p q

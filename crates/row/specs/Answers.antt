@@ -22,12 +22,9 @@ abbrev pub place_refuses : ℕ → ℕ → ℕ → ℕ
 place_refuses cells place value = first (when (leb cells place) 4) (when (leb values value) 4)
 
 -- every row call: 1, 2, 3
-abbrev pub row_sizes_refuse : ℕ → ℕ → ℕ → ℕ → ℕ → ℕ → ℕ
-row_sizes_refuse weights cells low high forward backward =
-    first (lists_refuse weights cells) (first (limits_refuse low high) (tables_refuse forward backward))
-
 abbrev pub row_refuses : List ℕ → List ℕ → ℕ → ℕ → List ℕ → List ℕ → ℕ
-row_refuses ws ds low high forward backward = row_sizes_refuse (length ws) (length ds) low high (length forward) (length backward)
+row_refuses ws ds low high forward backward =
+    first (lists_refuse (length ws) (length ds)) (first (limits_refuse low high) (tables_refuse (length forward) (length backward)))
 
 -- the count call: 1, 2, 3, 4
 abbrev pub count_refuses : List ℕ → List ℕ → ℕ → ℕ → ℕ → ℕ → List ℕ → List ℕ → ℕ

@@ -1,21 +1,21 @@
 -- What filled tables give for a cell is what counting means. Assumes nothing.
-use Rattle.std.specs.Prelude.{◌≡◌, true, List, ℕ, suc, ◌+◌, ◌-◌, ◌*◌, ◌^◌, ◌≤◌, ◌<◌, length, get_or}
+use Rattle.std.specs.Prelude.{◌≡◌, true, List, ℕ, suc, ◌+◌, ◌-◌, ◌*◌, ◌^◌, ◌≤◌, ◌<◌, length, get_or, drop}
 use Rattle.std.proofs.Math.Path.{sym, ap}
-use Rattle.std.proofs.Common.{ap₂, ◌∙◌, mul-zero, arith, lit<}
+use Rattle.std.proofs.Common.{ap₂, ◌∙◌, mul-zero, arith, lit<, length-take, length-drop, get_or-take, get_or-drop}
 use Rattle.std.proofs.Math.Bool.{not}
 use Rattle.std.proofs.Math.Dec.{eqb}
 use Rattle.told.specs.Told.{when}
-use Rattle.sizes.specs.Sizes.{values, highest, sums}
+use Rattle.sizes.specs.Sizes.{values, sums}
 use Rattle.sizes.specs.Sound.{SoundRow}
 use Rattle.listing.specs.Listing.{only, how_many, sum_over, below, onto}
-use Rattle.listing.specs.Sums.{when_cong, sum_only, sum_cong_below, sum_short, sum_nil, sum_part, how_many_sum, length_only}
+use Rattle.listing.specs.Sums.{when_cong, sum_only, sum_cong_below, sum_short, sum_nil, sum_turn, sum_part, how_many_sum, length_only}
 use Rattle.counting.specs.Counting.{lists, listed, domain_of, total, count, forward, backward, kept, gone}
 use Rattle.counting.proofs.Domains.{sum_listed, listed_le, domain_lt}
 use Rattle.counting.proofs.Tables.{backward_high, total_backward}
 use Rattle.counting.proofs.Counts.{count_law, count_le}
 use Rattle.layers.specs.Tables.{forward_table, backward_table}
 use Rattle.layers.specs.TableLaws.{fits, forward_length, forward_at, backward_length, backward_at, holds_room, holds_onto}
-use Rattle.row.specs.Cells.{Filled, through, ways, Countable, keeps, loses}
+use Rattle.row.specs.Cells.{Filled, layer_of, through, ways_below, ways, Countable, keeps, loses, kept_below, gone_below}
 
 -- ---- a cell, by the ways of its values
 
@@ -28,13 +28,6 @@ module _ (d : ℕ) (n : ℕ → ℕ) where
   unfolding how_many
   gone_many = sym (how_many_sum (λ v. eqb (n v) 0) (listed d) ∙ sum_listed d _)
 
-  -- so that both fit, also on the way
-  pub keeps_fit : (v : ℕ) → v < values → sum_over (keeps d n) (below v) + keeps d n v < 2 ^ values
-  keeps_fit v h = omega (arith, sum_part (keeps d n) v values h, kept_domain, domain_lt d (λ v. not (eqb (n v) 0)))
-
-  pub loses_fit : (v : ℕ) → v < values → sum_over (loses d n) (below v) + loses d n v ≤ values
-  loses_fit v h = omega (arith, sum_part (loses d n) v values h, gone_many, length_only (λ v. eqb (n v) 0) (listed d), listed_le d)
-
   -- only listed values matter
   module _ (m : ℕ → ℕ) (same : (v : ℕ) → v < values → lists d v ≡ true → n v ≡ m v) where
     keeps_same : sum_over (keeps d n) (below values) ≡ sum_over (keeps d m) (below values)
@@ -43,22 +36,66 @@ module _ (d : ℕ) (n : ℕ → ℕ) where
     loses_same : sum_over (loses d n) (below values) ≡ sum_over (loses d m) (below values)
     loses_same = sum_cong_below _ _ values (λ v l. when_cong (lists d v) _ _ (λ e. ap (λ (k : ℕ). when (eqb k 0) 1) (same v l e)))
 
--- a cell that takes every sum above 511 has none
-pub ways_far : (f b : List ℕ) (p s : ℕ) → highest < s → 0 ≡ ways f b p s
-unfolding ways
-ways_far f b p s h =
-    let none : sums - s ≡ 0 = omega arith in
-    sym (ap (λ (n : ℕ). sum_over (through f b p s) (below n)) none ∙ sum_nil _)
+-- ---- a layer of a table
 
--- the ways through the sums so far are at most all the ways
-pub ways_part : (f b : List ℕ) (p s k : ℕ) → k < sums - s → sum_over (through f b p s) (below k) + through f b p s k ≤ ways f b p s
-unfolding ways
-ways_part f b p s k h = sum_part (through f b p s) k (sums - s) h
+module _ (t : List ℕ) (i : ℕ) where
+  -- it is whole exactly where the table reaches to its end
+  pub layer_room : length (layer_of t i) ≡ sums → sums * i + sums ≤ length t
+  layer_room h = omega (arith, h, length-take (sums * i + sums - sums * i) (drop (sums * i) t), length-drop (sums * i) t)
 
--- what the code asks before it counts the ways of a listed value
-pub ways_ready : (f b : List ℕ) (p w d v : ℕ) → Countable f b p w d → v < values → lists d v ≡ true
-    → (sums * p + sums ≤ length f) × (sums * p + sums + sums ≤ length b) × (ways f b p (w * v) < 2 ^ 64)
-ways_ready f b p w d v c h e = (c.before, c.after, c.fit v h e)
+  layer_whole : sums * i + sums ≤ length t → length (layer_of t i) ≡ sums
+  layer_whole h = omega (arith, h, length-take (sums * i + sums - sums * i) (drop (sums * i) t), length-drop (sums * i) t)
+
+  layer_at : (k : ℕ) → k < sums → get_or (layer_of t i) k 0 ≡ get_or t (sums * i + k) 0
+  layer_at k h = get_or-take (sums * i + sums - sums * i) (drop (sums * i) t) k 0 (omega arith) ∙ get_or-drop (sums * i) t k 0
+
+-- ---- value after value, and sum after sum: none yet, one more, and that none of this grows too large
+
+module _ (before after : List ℕ) (w d : ℕ) where
+  pub kept_none : kept_below before after w d 0 ≡ 0
+  unfolding kept_below
+  kept_none = sum_nil _
+
+  pub kept_more : (v : ℕ) → kept_below before after w d (v + 1) ≡ kept_below before after w d v + keeps d (λ u. ways before after (w * u)) v
+  unfolding kept_below
+  kept_more v = sym (sum_turn _ v)
+
+  pub kept_fits : (v : ℕ) → v < values → kept_below before after w d v + keeps d (λ u. ways before after (w * u)) v < 2 ^ values
+  unfolding kept_below
+  kept_fits v h =
+      let n : ℕ → ℕ = λ u. ways before after (w * u) in
+      omega (arith, sum_part (keeps d n) v values h, kept_domain d n, domain_lt d (λ u. not (eqb (n u) 0)))
+
+  pub gone_none : gone_below before after w d 0 ≡ 0
+  unfolding gone_below
+  gone_none = sum_nil _
+
+  pub gone_more : (v : ℕ) → gone_below before after w d (v + 1) ≡ gone_below before after w d v + loses d (λ u. ways before after (w * u)) v
+  unfolding gone_below
+  gone_more v = sym (sum_turn _ v)
+
+  pub gone_fits : (v : ℕ) → v < values → gone_below before after w d v + loses d (λ u. ways before after (w * u)) v ≤ values
+  unfolding gone_below
+  gone_fits v h =
+      let n : ℕ → ℕ = λ u. ways before after (w * u) in
+      omega (arith, sum_part (loses d n) v values h, gone_many d n, length_only (λ u. eqb (n u) 0) (listed d), listed_le d)
+
+pub ruleset strike_steps = (kept_none, kept_more, kept_fits, gone_none, gone_more, gone_fits)
+
+module _ (before after : List ℕ) (s : ℕ) where
+  pub ways_none : ways_below before after s 0 ≡ 0
+  unfolding ways_below
+  ways_none = sum_nil _
+
+  pub ways_more : (b : ℕ) → ways_below before after s (b + 1) ≡ ways_below before after s b + get_or before b 0 * get_or after (s + b) 0
+  unfolding ways_below
+  ways_more b = sym (sum_turn _ b)
+
+  pub ways_part : (b : ℕ) → b < sums - s → ways_below before after s b + get_or before b 0 * get_or after (s + b) 0 ≤ ways before after s
+  unfolding ways_below
+  ways_part b h = sum_part (through before after s) b (sums - s) h
+
+pub ruleset way_steps = (ways_none, ways_more, ways_part)
 
 -- ---- filled tables
 
@@ -79,11 +116,11 @@ module _ (ws ds : List ℕ) (low high : ℕ) (f b : List ℕ) (filled : Filled w
     abbrev d : ℕ
     d = get_or ds p 0
 
-    each : (s k : ℕ) → k < sums - s → through f b p s k ≡ forward ws ds p k * backward ws ds low high (suc p) (k + s)
+    each : (s k : ℕ) → k < sums - s → through (layer_of f p) (layer_of b (p + 1)) s k ≡ forward ws ds p k * backward ws ds low high (suc p) (k + s)
     each s k h =
-        let at : sums * p + sums + s + k ≡ sums * suc p + (k + s) = omega arith in
-        ap₂ ◌*◌ (forward_at ws ds f filled.forwards p k (omega arith) (omega arith))
-        (ap (λ (i : ℕ). get_or b i 0) at ∙ backward_at ws ds low high b filled.backwards (suc p) (k + s) (omega arith) (omega arith))
+        let at : sums * (p + 1) + (s + k) ≡ sums * suc p + (k + s) = omega arith in
+        ap₂ ◌*◌ (layer_at f p k (omega arith) ∙ forward_at ws ds f filled.forwards p k (omega arith) (omega arith))
+        (layer_at b (p + 1) (s + k) (omega arith) ∙ rw at (backward_at ws ds low high b filled.backwards (suc p) (k + s) (omega arith) (omega arith)))
 
     -- sums above 511 are above high, from where nothing is good
     past : (s k : ℕ) → sums - s ≤ k → forward ws ds p k * backward ws ds low high (suc p) (k + s) ≡ 0
@@ -91,32 +128,32 @@ module _ (ws ds : List ℕ) (low high : ℕ) (f b : List ℕ) (filled : Filled w
         let limit = filled.sound.limit in
         ap (λ (n : ℕ). forward ws ds p k * n) (backward_high ws ds low high (suc p) (k + s) (omega arith)) ∙ mul-zero _
 
-    pub count_there : (v : ℕ) → v < values → when (lists (get_or ds p 0) v) (ways f b p (get_or ws p 0 * v)) ≡ count ws ds low high p v
-    unfolding ways
+    pub count_there : (v : ℕ) → v < values → when (lists (get_or ds p 0) v) (ways (layer_of f p) (layer_of b (p + 1)) (get_or ws p 0 * v)) ≡ count ws ds low high p v
+    unfolding ways_below
     count_there v h =
         let limit = filled.sound.limit in
         ap (when (lists d v))
         (sum_cong_below _ _ (sums - w * v) (each (w * v)) ∙ sum_short _ (sums - w * v) sums (omega arith) (past (w * v)))
         ∙ sym (count_law ws ds low high p v in_row filled.sound.same h (omega arith))
 
-    ways_count : (v : ℕ) → v < values → lists (get_or ds p 0) v ≡ true → ways f b p (get_or ws p 0 * v) ≡ count ws ds low high p v
+    ways_count : (v : ℕ) → v < values → lists (get_or ds p 0) v ≡ true → ways (layer_of f p) (layer_of b (p + 1)) (get_or ws p 0 * v) ≡ count ws ds low high p v
     ways_count v h e = rw e at (count_there v h)
 
-    pub countable : Countable f b p (get_or ws p 0) (get_or ds p 0)
+    pub countable : Countable (layer_of f p) (layer_of b (p + 1)) (get_or ws p 0) (get_or ds p 0)
     countable =
         let forward_room = holds_room _ f filled.forwards in
         let backward_room = holds_room _ b filled.backwards in
         record {
-          before = omega (arith, forward_length ws ds);
-          after = omega (arith, backward_length ws ds low high);
+          before_whole = layer_whole f p (omega (arith, forward_length ws ds));
+          after_whole = layer_whole b (p + 1) (omega (arith, backward_length ws ds low high));
           fit = λ v h e. rw (ways_count v h e) (fits _ (length ds) filled.sound.most (count_le ws ds low high p in_row v h));
         }
 
     -- what is kept and what is gone
-    pub kept_there : sum_over (keeps (get_or ds p 0) (λ v. ways f b p (get_or ws p 0 * v))) (below values) ≡ domain_of (kept ws ds low high p)
-    unfolding kept
-    kept_there = keeps_same d (λ v. ways f b p (w * v)) (count ws ds low high p) ways_count ∙ kept_domain d (count ws ds low high p)
+    pub kept_there : kept_below (layer_of f p) (layer_of b (p + 1)) (get_or ws p 0) (get_or ds p 0) values ≡ domain_of (kept ws ds low high p)
+    unfolding kept kept_below
+    kept_there = keeps_same d (λ v. ways (layer_of f p) (layer_of b (p + 1)) (w * v)) (count ws ds low high p) ways_count ∙ kept_domain d (count ws ds low high p)
 
-    pub gone_there : sum_over (loses (get_or ds p 0) (λ v. ways f b p (get_or ws p 0 * v))) (below values) ≡ length (gone ws ds low high p)
-    unfolding gone
-    gone_there = loses_same d (λ v. ways f b p (w * v)) (count ws ds low high p) ways_count ∙ gone_many d (count ws ds low high p)
+    pub gone_there : gone_below (layer_of f p) (layer_of b (p + 1)) (get_or ws p 0) (get_or ds p 0) values ≡ length (gone ws ds low high p)
+    unfolding gone gone_below
+    gone_there = loses_same d (λ v. ways (layer_of f p) (layer_of b (p + 1)) (w * v)) (count ws ds low high p) ways_count ∙ gone_many d (count ws ds low high p)

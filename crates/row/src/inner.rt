@@ -1,14 +1,15 @@
 // Calls for the floors above, which have made sure of what each requires: fill a row's tables once, then count and strike from them.
-ghost use Rattle.std.specs.Prelude.{◌≡◌, ◌+◌, ◌*◌, ◌^◌, ◌<◌, ◌≤◌, length};
+ghost use Rattle.std.specs.Prelude.{◌≡◌, true, ◌+◌, ◌*◌, ◌<◌, ◌≤◌, length};
 ghost use Rattle.told.specs.Told.{when};
 ghost use Rattle.sizes.specs.Sizes.{values, sums};
-ghost use Rattle.listing.specs.Listing.{onto, sum_over, below};
+ghost use Rattle.listing.specs.Listing.{onto};
 ghost use Rattle.counting.specs.Counting.{lists, total, count, strike, struck};
 ghost use Rattle.layers.specs.Tables.{forward_table, backward_table};
 ghost use Rattle.layers.specs.Steps.{Fillable};
-ghost use Rattle.row.specs.Cells.{Filled, Countable, ways, keeps, loses};
+ghost use Rattle.row.specs.Cells.{Filled, Countable, layer_of, ways, keeps, loses, kept_below, gone_below};
 
-use sizes::{HIGHEST, SUMS, VALUES};
+use layers::inner::lists;
+use sizes::{SUMS, VALUES};
 
 // Fills both tables, and answers the total.
 pub fn fill(
@@ -42,14 +43,7 @@ pub fn count(
     requires { Filled weights.now domains.now low high forward.now backward.now × (place < length domains.now) × (value < values) }
     ensures { result ≡ count weights.now domains.now low high place value }
 {
-    count_value(
-        forward,
-        backward,
-        place,
-        weights[place],
-        domains[place],
-        value,
-    )
+    Place::new(forward, backward, place, weights[place], domains[place]).count(value)
 }
 
 // Strikes from the domains every value whose count is 0, by tables that are filled for the domains at entry, and answers how many.
@@ -67,7 +61,7 @@ pub fn strike(
 {
     let mut struck: u64 = 0;
     for i in 0..domains.len() {
-        let cell = strike_cell(forward, backward, i, weights[i], domains[i]);
+        let cell = Place::new(forward, backward, i, weights[i], domains[i]).strike();
         domains[i] = cell.kept;
         struck += cell.gone;
     }
@@ -81,65 +75,99 @@ struct Cell {
     gone: u64,
 }
 
-// Strikes the domain d of the cell at p, whose weight is w.
-fn strike_cell(forward: &[u64], backward: &[u64], p: usize, w: u8, d: u32) -> Cell
-    requires { Countable forward.now backward.now p w d }
-    ensures kept_value { result.kept ≡ sum_over (keeps d (λ v. ways forward.now backward.now p (w * v))) (below values) }
-    ensures gone_value { result.gone ≡ sum_over (loses d (λ v. ways forward.now backward.now p (w * v))) (below values) }
-{
-    let mut kept: u32 = 0;
-    let mut gone: u64 = 0;
-    for v in 0..VALUES {
-        let value = strike_value(forward, backward, p, w, d, v);
-        kept += value.kept;
-        gone += value.gone;
-    }
-    Cell { kept, gone }
+// A place in a row: the forward numbers before its cell and the backward numbers after it, one for each sum, and the cell's weight and domain.
+#[derive(Clone, Copy)]
+struct Place<'a> {
+    before: &'a [u64],
+    after: &'a [u64],
+    weight: u8,
+    domain: u32,
+    ghost countable: { Countable before.now after.now weight domain },
 }
 
-// What the value v adds to the domain that is kept, and to the number of values gone.
-fn strike_value(forward: &[u64], backward: &[u64], p: usize, w: u8, d: u32, v: usize) -> Cell
-    requires { Countable forward.now backward.now p w d × (v < values) }
-    ensures kept_value { result.kept ≡ keeps d (λ u. ways forward.now backward.now p (w * u)) v }
-    ensures gone_value { result.gone ≡ loses d (λ u. ways forward.now backward.now p (w * u)) v }
-{
-    if (d >> v) % 2 != 1 {
-        return Cell { kept: 0, gone: 0 };
+impl<'a> Place<'a> {
+    // The place p of a row, by the row's filled tables.
+    #[tactic(auto, using(crate::specs::CellLaws::layer_room))]
+    fn new(forward: &'a [u64], backward: &'a [u64], p: usize, weight: u8, domain: u32) -> Place<'a>
+        requires { Countable (layer_of forward.now p) (layer_of backward.now (p + 1)) weight domain }
+        ensures before_value { result.before.now ≡ layer_of forward.now p }
+        ensures after_value { result.after.now ≡ layer_of backward.now (p + 1) }
+        ensures weight_value { result.weight ≡ weight }
+        ensures domain_value { result.domain ≡ domain }
+    {
+        Place {
+            before: layer_of(forward, p),
+            after: layer_of(backward, p + 1),
+            weight,
+            domain,
+        }
     }
-    if ways(forward, backward, p, (w as usize) * v) == 0 {
-        return Cell { kept: 0, gone: 1 };
+
+    // The good fillings with the value v in the cell: forward numbers before it times backward numbers after it.
+    #[tactic(auto, using(crate::specs::CellLaws::way_steps))]
+    fn ways(&self, v: usize) -> u64
+        requires { (v < values) × (lists self.now.domain v ≡ true) }
+        ensures { let p = self.now in result ≡ ways p.before.now p.after.now (p.weight * v) }
+    {
+        let step = usize::from(self.weight) * v;
+        let mut sum: u64 = 0;
+        for b in 0..SUMS.saturating_sub(step) {
+            sum += self.before[b] * self.after[step + b];
+        }
+        sum
     }
-    Cell {
-        kept: 1u32 << v,
-        gone: 0,
+
+    // The count of the value v in the cell.
+    fn count(&self, v: usize) -> u64
+        requires { v < values }
+        ensures { let p = self.now in result ≡ when (lists p.domain v) (ways p.before.now p.after.now (p.weight * v)) }
+    {
+        if !lists(self.domain, v) {
+            return 0;
+        }
+        self.ways(v)
+    }
+
+    // Strikes the cell's domain.
+    #[tactic(auto, using(crate::specs::CellLaws::strike_steps))]
+    fn strike(&self) -> Cell
+        ensures kept_value { let p = self.now in result.kept ≡ kept_below p.before.now p.after.now p.weight p.domain values }
+        ensures gone_value { let p = self.now in result.gone ≡ gone_below p.before.now p.after.now p.weight p.domain values }
+    {
+        let mut kept: u32 = 0;
+        let mut gone: u64 = 0;
+        for v in 0..VALUES {
+            let value = self.strike_value(v);
+            kept += value.kept;
+            gone += value.gone;
+        }
+        Cell { kept, gone }
+    }
+
+    // What the value v adds to the domain that is kept, and to the number of values gone.
+    fn strike_value(&self, v: usize) -> Cell
+        requires { v < values }
+        ensures kept_value { let p = self.now in result.kept ≡ keeps p.domain (λ u. ways p.before.now p.after.now (p.weight * u)) v }
+        ensures gone_value { let p = self.now in result.gone ≡ loses p.domain (λ u. ways p.before.now p.after.now (p.weight * u)) v }
+    {
+        if !lists(self.domain, v) {
+            return Cell { kept: 0, gone: 0 };
+        }
+        if self.ways(v) == 0 {
+            return Cell { kept: 0, gone: 1 };
+        }
+        Cell {
+            kept: 1 << v,
+            gone: 0,
+        }
     }
 }
 
-// The count of the value v in the cell at p, whose weight is w and whose domain is d.
-fn count_value(forward: &[u64], backward: &[u64], p: usize, w: u8, d: u32, v: usize) -> u64
-    requires { Countable forward.now backward.now p w d × (v < values) }
-    ensures { result ≡ when (lists d v) (ways forward.now backward.now p (w * v)) }
+// The layer of a table at i.
+fn layer_of(table: &[u64], i: usize) -> &[u64]
+    requires { sums * i + sums ≤ length table.now }
+    ensures { result.now ≡ layer_of table.now i }
 {
-    if (d >> v) % 2 != 1 {
-        return 0;
-    }
-    ways(forward, backward, p, (w as usize) * v)
-}
-
-// The good fillings in which the cell at p adds s to the sum: forward numbers before it times backward numbers after it.
-fn ways(forward: &[u64], backward: &[u64], p: usize, s: usize) -> u64
-    requires { (sums * p + sums ≤ length forward.now) × (sums * p + sums + sums ≤ length backward.now) × (ways forward.now backward.now p s < 2 ^ 64) }
-    ensures { result ≡ ways forward.now backward.now p s }
-{
-    if HIGHEST < s {
-        return 0;
-    }
-    let before = SUMS * p;
-    let after = before + SUMS + s;
-    let n = SUMS - s;
-    let mut sum: u64 = 0;
-    for b in 0..n {
-        sum += forward[before + b] * backward[after + b];
-    }
-    sum
+    let at = SUMS * i;
+    &table[at..at + SUMS]
 }

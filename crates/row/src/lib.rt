@@ -3,9 +3,9 @@
 
 pub mod inner;
 
-ghost use Rattle.std.specs.Prelude.{◌≡◌};
-ghost use Rattle.told.specs.Told.{first, told, refusal_in};
-ghost use Rattle.row.specs.Answers.{lists_refuse, row_sizes_refuse, place_refuses, total_says, count_says, strike_says, tables, row_leaves, count_leaves, strike_leaves};
+ghost use Rattle.std.specs.Prelude.{◌≡◌, length};
+ghost use Rattle.told.specs.Told.{told, refusal_in};
+ghost use Rattle.row.specs.Answers.{lists_refuse, row_refuses, count_refuses, total_says, count_says, strike_says, tables, row_leaves, count_leaves, strike_leaves};
 
 use sizes::{TABLE, VALUES, length_refuses, limits_refuse};
 use told::Refusal;
@@ -22,14 +22,7 @@ pub fn total(
     ensures result_value { told result ≡ total_says weights.now domains.now low high forward.old backward.old }
     ensures backward_after { tables forward.new backward.new ≡ row_leaves weights.now domains.now low high forward.old backward.old }
 {
-    row_refuses(
-        weights.len(),
-        domains.len(),
-        low,
-        high,
-        forward.len(),
-        backward.len(),
-    )?;
+    row_refuses(weights, domains, low, high, forward, backward)?;
     Ok(inner::fill(weights, domains, low, high, forward, backward))
 }
 
@@ -47,16 +40,7 @@ pub fn count(
     ensures result_value { told result ≡ count_says weights.now domains.now low high place value forward.old backward.old }
     ensures backward_after { tables forward.new backward.new ≡ count_leaves weights.now domains.now low high place value forward.old backward.old }
 {
-    count_refuses(
-        weights.len(),
-        domains.len(),
-        low,
-        high,
-        place,
-        value,
-        forward.len(),
-        backward.len(),
-    )?;
+    count_refuses(weights, domains, low, high, place, value, forward, backward)?;
     inner::fill(weights, domains, low, high, forward, backward);
     Ok(inner::count(weights, domains, low, high, place, value, forward, backward))
 }
@@ -74,43 +58,36 @@ pub fn strike(
     ensures backward_after { tables forward.new backward.new ≡ row_leaves weights.now domains.old low high forward.old backward.old }
     ensures domains_after { domains.new ≡ strike_leaves weights.now domains.old low high forward.old backward.old }
 {
-    row_refuses(
-        weights.len(),
-        domains.len(),
-        low,
-        high,
-        forward.len(),
-        backward.len(),
-    )?;
+    row_refuses(weights, domains, low, high, forward, backward)?;
     inner::fill(weights, domains, low, high, forward, backward);
     Ok(inner::strike(weights, domains, low, high, forward, backward))
 }
 
 // What every row call refuses.
 fn row_refuses(
-    weights: usize,
-    cells: usize,
+    weights: &[u8],
+    domains: &[u32],
     low: usize,
     high: usize,
-    forward: usize,
-    backward: usize,
+    forward: &[u64],
+    backward: &[u64],
 ) -> Result<(), Refusal>
-    ensures { refusal_in result ≡ row_sizes_refuse weights cells low high forward backward }
+    ensures { refusal_in result ≡ row_refuses weights.now domains.now low high forward.now backward.now }
 {
-    lists_refuse(weights, cells)?;
+    lists_refuse(weights, domains)?;
     limits_refuse(low, high)?;
-    if forward < TABLE || backward < TABLE {
+    if forward.len() < TABLE || backward.len() < TABLE {
         return Err(Refusal::Table);
     }
     Ok(())
 }
 
 // Whether the two lists make a row.
-fn lists_refuse(weights: usize, cells: usize) -> Result<(), Refusal>
-    ensures { refusal_in result ≡ lists_refuse weights cells }
+fn lists_refuse(weights: &[u8], domains: &[u32]) -> Result<(), Refusal>
+    ensures { refusal_in result ≡ lists_refuse (length weights.now) (length domains.now) }
 {
-    length_refuses(cells)?;
-    if weights != cells {
+    length_refuses(domains.len())?;
+    if weights.len() != domains.len() {
         return Err(Refusal::Length);
     }
     Ok(())
@@ -118,19 +95,19 @@ fn lists_refuse(weights: usize, cells: usize) -> Result<(), Refusal>
 
 // What the count call refuses.
 fn count_refuses(
-    weights: usize,
-    cells: usize,
+    weights: &[u8],
+    domains: &[u32],
     low: usize,
     high: usize,
     place: usize,
     value: usize,
-    forward: usize,
-    backward: usize,
+    forward: &[u64],
+    backward: &[u64],
 ) -> Result<(), Refusal>
-    ensures { refusal_in result ≡ first (row_sizes_refuse weights cells low high forward backward) (place_refuses cells place value) }
+    ensures { refusal_in result ≡ count_refuses weights.now domains.now low high place value forward.now backward.now }
 {
-    row_refuses(weights, cells, low, high, forward, backward)?;
-    if cells <= place || VALUES <= value {
+    row_refuses(weights, domains, low, high, forward, backward)?;
+    if domains.len() <= place || VALUES <= value {
         return Err(Refusal::Place);
     }
     Ok(())

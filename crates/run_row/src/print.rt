@@ -1,96 +1,52 @@
 // What the program prints, a line at a time.
-use row::Answer;
 use sizes::SUMS;
 use std::io;
 use std::io::Write;
+use told::Refusal;
 
-// A text, with `: ` after it.
-pub fn text<W: Write>(out: &mut W, words: &[u8]) -> io::Result<()> {
-    out.write_all(words)?;
-    out.write_all(b": ")
-}
-
-// A text, and a place and a value.
-pub fn pair<W: Write>(out: &mut W, words: &[u8], place: usize, value: usize) -> io::Result<()> {
-    out.write_all(words)?;
-    spaced(out, place as u64)?;
-    spaced(out, value as u64)
-}
-
-// An answer, and the line's end.
-pub fn answer<W: Write>(out: &mut W, told: Answer) -> io::Result<()> {
-    match told {
-        Answer::Number(n) => writeln!(out, "{n}"),
-        Answer::Refused(n) => writeln!(out, "refused {n}"),
+// A text, and an answer.
+pub fn answer<W: Write>(out: &mut W, words: &str, answer: Result<u64, Refusal>) -> io::Result<()> {
+    match answer {
+        Ok(number) => writeln!(out, "{words}: {number}"),
+        Err(refusal) => writeln!(out, "{words}: refused {refusal}"),
     }
 }
 
 // A line of domains, each as its number.
 pub fn domains<W: Write>(out: &mut W, room: &[u32]) -> io::Result<()> {
-    out.write_all(b"  domains")?;
-    for d in room {
-        domain(out, *d)?;
+    write!(out, "  domains")?;
+    for domain in room {
+        write!(out, " {domain}")?;
     }
-    out.write_all(b"\n")
+    writeln!(out)
 }
 
-fn domain<W: Write>(out: &mut W, d: u32) -> io::Result<()> {
-    spaced(out, d as u64)
-}
-
-// A line with one entry of a table.
-pub fn entry<W: Write>(out: &mut W, words: &[u8], at: usize, table: &[u64]) -> io::Result<()> {
-    if table.len() <= at {
-        return Ok(());
+// A line with one entry of a table, where it has so many.
+pub fn entry<W: Write>(out: &mut W, words: &str, at: usize, table: &[u64]) -> io::Result<()> {
+    match table.get(at) {
+        Some(number) => writeln!(out, "  {words} {at}: {number}"),
+        None => Ok(()),
     }
-    out.write_all(b"  ")?;
-    out.write_all(words)?;
-    spaced(out, at as u64)?;
-    out.write_all(b":")?;
-    spaced(out, table[at])?;
-    out.write_all(b"\n")
 }
 
 // Entries of both tables: of the first layers, of the last, and past them.
 pub fn ends<W: Write>(out: &mut W, forward: &[u64], backward: &[u64]) -> io::Result<()> {
-    entry(out, b"forward at", 513, forward)?;
-    entry(out, b"forward at", 1023, forward)?;
-    entry(out, b"forward at", 5125, forward)?;
-    entry(out, b"forward at", 5631, forward)?;
-    entry(out, b"backward at", 0, backward)?;
-    entry(out, b"backward at", 5631, backward)?;
-    entry(out, b"backward at", 5632, backward)?;
-    entry(out, b"backward at", 5999, backward)
-}
-
-// The vertices of a row's reduced graph: each (i, b) that has both numbers above 0, in tables that were 0 before.
-pub fn vertices<W: Write>(out: &mut W, forward: &[u64], backward: &[u64]) -> io::Result<()> {
-    for k in 0..forward.len() {
-        vertex(out, k, forward, backward)?;
+    for at in [513, 1023, 5125, 5631] {
+        entry(out, "forward at", at, forward)?;
+    }
+    for at in [0, 5631, 5632, 5999] {
+        entry(out, "backward at", at, backward)?;
     }
     Ok(())
 }
 
-fn vertex<W: Write>(out: &mut W, k: usize, forward: &[u64], backward: &[u64]) -> io::Result<()> {
-    if forward.len() <= k {
-        return Ok(());
+// The vertices of a row's reduced graph: each (i, b) that has both numbers above 0, in tables that were 0 before.
+pub fn vertices<W: Write>(out: &mut W, forward: &[u64], backward: &[u64]) -> io::Result<()> {
+    for (k, (before, after)) in forward.iter().zip(backward).enumerate() {
+        if *before != 0 && *after != 0 {
+            let (i, b) = (k / SUMS, k % SUMS);
+            writeln!(out, "  vertex {i} {b}: {before} {after}")?;
+        }
     }
-    if backward.len() <= k {
-        return Ok(());
-    }
-    if forward[k] == 0 {
-        return Ok(());
-    }
-    if backward[k] == 0 {
-        return Ok(());
-    }
-    pair(out, b"  vertex", k / SUMS, k % SUMS)?;
-    out.write_all(b":")?;
-    spaced(out, forward[k])?;
-    spaced(out, backward[k])?;
-    out.write_all(b"\n")
-}
-
-fn spaced<W: Write>(out: &mut W, n: u64) -> io::Result<()> {
-    write!(out, " {n}")
+    Ok(())
 }

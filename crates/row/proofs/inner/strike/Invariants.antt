@@ -1,6 +1,4 @@
--- `inner::strike` meets its contract: after i turns the first i domains are struck, each by tables that hold for the domains at entry. Assumes nothing.
-use Prim.Native.Nat.{◌-◌, ◌≤◌}
-use lib.ListN.{length}
+-- `inner::strike` meets its contract: after i turns the first i domains are struck, by tables that hold for the domains at entry. Assumes nothing.
 use Rattle.counting.specs.Steps.{StruckTo}
 use Rattle.row.proofs.inner.strike.Given as goal
 
