@@ -1,7 +1,7 @@
 -- Each layer marks where the forward, or the backward, numbers are above zero: what the loops over a row's cells have. Assumes nothing.
-use Rattle.std.specs.Prelude.{◌≡◌, Bool, not, ◌&&◌, ◌||◌, List, ℕ, zero, suc, ◌+◌, ◌-◌, ◌*◌, ◌≤◌, ◌<◌, ltb, eqb, length, get_or}
+use Rattle.std.specs.Prelude.{◌≡◌, Bool, not, ◌&&◌, ◌||◌, List, ℕ, zero, suc, ◌+◌, ◌-◌, ◌*◌, ◌≤◌, ◌<◌, ltb, eqb, length, get_or, set}
 use Rattle.std.proofs.Math.Path.{refl, sym, ap, ap₂}
-use Rattle.std.proofs.Common.{◌∙◌, subst, le_refl, add-one}
+use Rattle.std.proofs.Common.{◌∙◌, subst, le_refl, add-one, lit<, get_or-set_same}
 use Rattle.std.proofs.Math.Bool.{true, false}
 use native.Mathlib.Omega.{arith}
 use Rattle.std.proofs.Math.Dec.{leb}
@@ -14,9 +14,11 @@ use Rattle.listing.specs.Sums.{never}
 use Rattle.counting.specs.Counting.{lists, listed, within, forward, backward}
 use Rattle.counting.proofs.Domains.{sum_listed}
 use Rattle.counting.proofs.Tables.{forward_zero, forward_suc, backward_end, backward_suc, backward_high}
-use Rattle.words.specs.Words.{set_words, has, any, above_zero, Put}
-use Rattle.words.specs.Bits.{or_false, any_cong, above_sum, above_when}
+use Rattle.words.specs.Words.{word_bits, set_words, bit, has, any, above_zero, Put}
+use Rattle.words.specs.Bits.{or_false, bit_high, has_word, word_other, any_cong, above_sum, above_when}
 use Rattle.words.specs.Sets.{put_in, put_early, put_late}
+use Rattle.reach.specs.declared.inner.Way.{Way}
+use Rattle.reach.specs.declared.inner.Way.TheVariants.{Forward, Backward}
 use Rattle.reach.specs.Reach.{table_words, layer_word, layer_at, NewLayer, Marked, Clear, moved, reached, next}
 
 -- a table has its layers, and an empty set before each and after the last
@@ -84,15 +86,15 @@ above_one : (t : Bool) → t ≡ above_zero (when t 1)
 above_one true = refl
 above_one false = refl
 
--- only the sum 0 is from 0 to 0
-pub first_forward : (ws ds : List ℕ) (b : ℕ) → b < sums → within 0 0 b ≡ above_zero (forward ws ds 0 b)
-first_forward ws ds b h = zero_only b ∙ above_one (eqb 0 b) ∙ ap above_zero (sym (forward_zero ws ds b))
+-- the sum 0 alone
+first_forward : (ws ds : List ℕ) (b : ℕ) → bit 1 b ≡ above_zero (forward ws ds 0 b)
+first_forward ws ds b = zero_only b ∙ above_one (eqb 0 b) ∙ ap above_zero (sym (forward_zero ws ds b))
   where
-    zero_only : (b : ℕ) → within 0 0 b ≡ eqb 0 b
+    zero_only : (b : ℕ) → bit 1 b ≡ eqb 0 b
     zero_only zero = refl
-    zero_only (suc b) = ap₂ ◌&&◌ (le-leb 0 (suc b) (omega arith)) (lt-leb (suc b) 0 (omega arith)) ∙ sym (ne_eqb 0 (suc b) (λ e. omega arith))
+    zero_only (suc b) = bit_high 1 1 (suc b) (lit< tt) (omega arith) ∙ sym (ne_eqb 0 (suc b) (λ e. omega arith))
 
-pub first_backward : (ws ds : List ℕ) (low high b : ℕ) → b < sums → within low high b ≡ above_zero (backward ws ds low high (length ds) b)
+first_backward : (ws ds : List ℕ) (low high b : ℕ) → b < sums → within low high b ≡ above_zero (backward ws ds low high (length ds) b)
 first_backward ws ds low high b h = above_one (within low high b) ∙ ap above_zero (sym (backward_end ws ds low high b))
 
 -- ---- the layers that follow
@@ -104,28 +106,21 @@ above_listed d g =
     ∙ above_sum (λ v. when (lists d v) (g v)) values
     ∙ any_cong _ _ values (λ v h. above_when (lists d v) (g v))
 
--- a set with what a value reaches: one that is not listed, one that brings too much, and any other
-module _ (x l : Bool) (t : List ℕ) (i : ℕ) (back : Bool) (s b : ℕ) where
-  pub unlisted : l ≡ false → x ≡ (x || (l && reached t i back s b))
-  unlisted e = sym (ap (λ (y : Bool). x || (y && reached t i back s b)) e ∙ or_false x)
-
-  pub too_far : highest < s → x ≡ (x || (l && reached t i back s b))
+-- a set with what a value reaches: one that brings too much, and any other
+module _ (x : Bool) (t : List ℕ) (i : ℕ) (way : Way) (s b : ℕ) where
+  pub too_far : highest < s → x ≡ (x || reached t i way s b)
   unfolding reached
-  too_far h = sym (ap (λ (y : Bool). x || (l && (y && has t (moved back (layer_at i) s + b)))) (lt-leb s highest h) ∙ none l)
-    where
-      none : (l : Bool) → (x || (l && false)) ≡ x
-      none true = or_false x
-      none false = or_false x
+  too_far h = sym (ap (λ (y : Bool). x || (y && has t (moved way (layer_at i) s + b))) (lt-leb s highest h) ∙ or_false x)
 
-  pub in_reach : (q : ℕ) → l ≡ true → s ≤ highest → q ≡ moved back (layer_at i) s → (x || has t (q + b)) ≡ (x || (l && reached t i back s b))
+  pub in_reach : (q : ℕ) → s ≤ highest → q ≡ moved way (layer_at i) s → (x || has t (q + b)) ≡ (x || reached t i way s b)
   unfolding reached
-  in_reach q e h k =
+  in_reach q h k =
       ap (λ (n : ℕ). x || has t (n + b)) k
-      ∙ sym (ap₂ (λ (u v : Bool). x || (u && (v && has t (moved back (layer_at i) s + b)))) e (le-leb s highest h))
+      ∙ sym (ap (λ (v : Bool). x || (v && has t (moved way (layer_at i) s + b))) (le-leb s highest h))
 
 module _ (ws ds t : List ℕ) (i : ℕ) (in_row : i < length ds) (same : length ws ≡ length ds) where
   module _ (m : Marked (forward ws ds) t 0 (i + 1)) where
-    reached_up : (s b : ℕ) → b < sums → reached t i false s b ≡ (leb s b && above_zero (forward ws ds i (b - s)))
+    reached_up : (s b : ℕ) → b < sums → reached t i Forward s b ≡ (leb s b && above_zero (forward ws ds i (b - s)))
     unfolding reached
     reached_up s b k = go (leb s b) refl (leb s highest) refl
       where
@@ -150,7 +145,7 @@ module _ (ws ds t : List ℕ) (i : ℕ) (in_row : i < length ds) (same : length 
             ap (λ (y : Bool). y && has t (layer_at i - s + b)) o ∙ sym (ap (λ (y : Bool). y && above_zero (forward ws ds i (b - s))) e)
 
     -- the cell at i takes the forward layer at i to the one at i + 1
-    pub next_forward : (b : ℕ) → b < sums → next t i false (get_or ws i 0) (get_or ds i 0) b ≡ above_zero (forward ws ds (i + 1) b)
+    pub next_forward : (b : ℕ) → b < sums → next t i Forward (get_or ws i 0) (get_or ds i 0) b ≡ above_zero (forward ws ds (i + 1) b)
     next_forward b k =
         any_cong _ _ values (λ v o. ap (λ (y : Bool). lists (get_or ds i 0) v && y)
         (reached_up (get_or ws i 0 * v) b k ∙ sym (above_when (leb (get_or ws i 0 * v) b) (forward ws ds i (b - get_or ws i 0 * v)))))
@@ -158,7 +153,7 @@ module _ (ws ds t : List ℕ) (i : ℕ) (in_row : i < length ds) (same : length 
         ∙ ap above_zero (sym (forward_suc ws ds i b in_row same) ∙ ap (λ (n : ℕ). forward ws ds n b) (sym (add-one i)))
 
   module _ (low high hi : ℕ) (limit : high ≤ highest) (top : i + 1 < hi) (m : Marked (backward ws ds low high) t (i + 1) hi) where
-    pub reached_down : (s b : ℕ) → b < sums → reached t (i + 1) true s b ≡ above_zero (backward ws ds low high (suc i) (b + s))
+    pub reached_down : (s b : ℕ) → b < sums → reached t (i + 1) Backward s b ≡ above_zero (backward ws ds low high (suc i) (b + s))
     unfolding reached
     reached_down s b k = go (leb s highest) refl (leb (b + s) highest) refl
       where
@@ -184,7 +179,7 @@ module _ (ws ds t : List ℕ) (i : ℕ) (in_row : i < length ds) (same : length 
         go false e false o = ap (λ (y : Bool). y && has t (layer_at (i + 1) + s + b)) e ∙ sym (past (leb-false (b + s) highest o))
 
     -- the cell at i takes the backward layer at i + 1 to the one at i
-    pub next_backward : (b : ℕ) → b < sums → next t (i + 1) true (get_or ws i 0) (get_or ds i 0) b ≡ above_zero (backward ws ds low high i b)
+    pub next_backward : (b : ℕ) → b < sums → next t (i + 1) Backward (get_or ws i 0) (get_or ds i 0) b ≡ above_zero (backward ws ds low high i b)
     next_backward b k =
         any_cong _ _ values (λ v o. ap (λ (y : Bool). lists (get_or ds i 0) v && y) (reached_down (get_or ws i 0 * v) b k))
         ∙ sym (above_listed (get_or ds i 0) (λ v. backward ws ds low high (suc i) (b + get_or ws i 0 * v)))
@@ -193,13 +188,23 @@ module _ (ws ds t : List ℕ) (i : ℕ) (in_row : i < length ds) (same : length 
 -- ---- the tables, layer by layer
 
 -- bit b of layer i of the first is set exactly when the forward number at (i, b) is above zero
-module _ (ws ds t u : List ℕ) where
-  pub forward_start : Clear t → NewLayer (within 0 0) t u 0 → Marked (forward ws ds) u 0 1
-  forward_start z s = marked_up _ _ t u 0 (first_forward ws ds) s (marked_none _ t 0 z)
+pub forward_start : (ws ds t : List ℕ) (at : ℕ) → at ≡ layer_word 0 → at < length t → Clear t → Marked (forward ws ds) (set t at 1) 0 1
+forward_start ws ds t at e l z = record { marks = λ i b m h k. go i b (omega arith) k (ltb b word_bits) refl; empty = λ i b k. word_other t at 1 (2 * sums * i + b) (λ q. omega arith) ∙ z _ }
+  where
+    go : (i b : ℕ) → i ≡ 0 → b < sums → (c : Bool) → ltb b word_bits ≡ c → has (set t at 1) (layer_at i + b) ≡ above_zero (forward ws ds i b)
+    go i b r k true q =
+        let m : b < word_bits = ltb-true b word_bits q in
+        let here : layer_at i + b ≡ word_bits * at + b = omega arith in
+        ap (has (set t at 1)) here ∙ has_word (set t at 1) at b m ∙ ap (λ (x : ℕ). bit x b) (get_or-set_same t at 1 0 l)
+        ∙ first_forward ws ds b ∙ ap (λ (n : ℕ). above_zero (forward ws ds n b)) (sym r)
+    go i b r k false q =
+        let m : word_bits ≤ b = ltb-false b word_bits q in
+        word_other t at 1 (layer_at i + b) (λ h. omega arith) ∙ z (layer_at i + b)
+        ∙ sym (bit_high 1 1 b (lit< tt) (omega arith)) ∙ first_forward ws ds b ∙ ap (λ (n : ℕ). above_zero (forward ws ds n b)) (sym r)
 
-  pub forward_more : (i : ℕ) → i < length ds → length ws ≡ length ds → Marked (forward ws ds) t 0 (i + 1)
-      → NewLayer (next t i false (get_or ws i 0) (get_or ds i 0)) t u (i + 1) → Marked (forward ws ds) u 0 (i + 1 + 1)
-  forward_more i h same m s = marked_up _ _ t u (i + 1) (next_forward ws ds t i h same m) s m
+pub forward_more : (ws ds t u : List ℕ) (i : ℕ) → i < length ds → length ws ≡ length ds → Marked (forward ws ds) t 0 (i + 1)
+    → NewLayer (next t i Forward (get_or ws i 0) (get_or ds i 0)) t u (i + 1) → Marked (forward ws ds) u 0 (i + 1 + 1)
+forward_more ws ds t u i h same m s = marked_up _ _ t u (i + 1) (next_forward ws ds t i h same m) s m
 
 -- and of layer i of the second when the backward number is
 module _ (ws ds : List ℕ) (low high : ℕ) (t u : List ℕ) where
@@ -207,7 +212,7 @@ module _ (ws ds : List ℕ) (low high : ℕ) (t u : List ℕ) where
   backward_start z s = marked_down _ _ t u (length ds) (first_backward ws ds low high) s (length ds + 1) (marked_none _ t (length ds + 1) z)
 
   pub backward_more : (i : ℕ) → 0 < i → i ≤ length ds → SoundRow ws ds low high → Marked (backward ws ds low high) t i (length ds + 1)
-      → NewLayer (next t (i - 1 + 1) true (get_or ws (i - 1) 0) (get_or ds (i - 1) 0)) t u (i - 1) → Marked (backward ws ds low high) u (i - 1) (length ds + 1)
+      → NewLayer (next t (i - 1 + 1) Backward (get_or ws (i - 1) 0) (get_or ds (i - 1) 0)) t u (i - 1) → Marked (backward ws ds low high) u (i - 1) (length ds + 1)
   backward_more i some h sound m s =
       let e : i ≡ i - 1 + 1 = omega arith in
       let n : Marked (backward ws ds low high) t (i - 1 + 1) (length ds + 1) = subst (λ (k : ℕ). Marked (backward ws ds low high) t k (length ds + 1)) e m in

@@ -1,4 +1,4 @@
 pub mod Reach
 pub mod Layers
-pub mod Halving
+pub mod Values
 pub mod Uses

@@ -1,12 +1,14 @@
 -- Reachable sums, layer by layer, as bits of words. Definitions only.
 -- A table's layer i holds the sums of the first i cells, or those from which the remaining cells lead to a sum from low to high.
-use Rattle.std.specs.Prelude.{◌≡◌, Bool, true, false, ◌&&◌, List, ℕ, ◌+◌, ◌-◌, ◌*◌, ◌≤◌, ◌<◌, leb, length}
+use Rattle.std.specs.Prelude.{◌≡◌, Bool, false, not, ◌&&◌, List, ℕ, ◌+◌, ◌-◌, ◌*◌, ◌^◌, ◌≤◌, ◌<◌, leb, length}
 use Rattle.told.specs.Told.{when}
 use Rattle.sizes.specs.Sizes.{values, highest, sums}
 use Rattle.sizes.specs.Sound.{SoundRow}
 use Rattle.listing.specs.Listing.{sum_over, below}
 use Rattle.counting.specs.Counting.{lists, forward, backward}
 use Rattle.words.specs.Words.{word_bits, set_words, has, any, above_zero, both}
+use Rattle.reach.specs.declared.inner.Way.{Way}
+use Rattle.reach.specs.declared.inner.Way.TheVariants.{Forward, Backward}
 
 -- ---- tables
 
@@ -38,18 +40,18 @@ pub record Marked (F : ℕ → ℕ → ℕ) (t : List ℕ) (lo hi : ℕ) : Type 
 
 -- ---- sums that a cell reaches
 
--- where a layer that begins at p is read from, when it is moved up by s, or down where back
-abbrev pub moved : Bool → ℕ → ℕ → ℕ
-moved true p s = p + s
-moved false p s = p - s
+-- where a layer that begins at p is read from, when its sums are moved up by s, or down
+abbrev pub moved : Way → ℕ → ℕ → ℕ
+moved Forward p s = p - s
+moved Backward p s = p + s
 
 -- a value that brings s reaches the sum b from layer i
-unfoldable pub reached : List ℕ → ℕ → Bool → ℕ → ℕ → Bool
-reached t i back s b = leb s highest && has t (moved back (layer_at i) s + b)
+unfoldable pub reached : List ℕ → ℕ → Way → ℕ → ℕ → Bool
+reached t i way s b = leb s highest && has t (moved way (layer_at i) s + b)
 
 -- some value of a cell of weight w and domain d does
-abbrev pub next : List ℕ → ℕ → Bool → ℕ → ℕ → ℕ → Bool
-next t i back w d b = any (λ v. lists d v && reached t i back (w * v) b) values
+abbrev pub next : List ℕ → ℕ → Way → ℕ → ℕ → ℕ → Bool
+next t i way w d b = any (λ v. lists d v && reached t i way (w * v) b) values
 
 -- a sum before place i, and s more, lead to a sum after it
 unfoldable pub leads : List ℕ → List ℕ → ℕ → ℕ → Bool
@@ -61,18 +63,13 @@ uses f g i w v = leads f g i (w * v)
 
 -- ---- striking, value by value and cell by cell
 
--- what a value brings under two tests, that it is listed and another
-unfoldable pub brings : Bool → Bool → ℕ → ℕ
-brings listed passes n = when (listed && passes) n
-
--- the sum of g over the values below n that d lists and p passes
-unfoldable pub sum_to : ℕ → (ℕ → Bool) → (ℕ → ℕ) → ℕ → ℕ
-sum_to d p g n = sum_over (λ v. brings (lists d v) (p v) (g v)) (below n)
+-- of the values below v that d lists, x is the domain of those that pass a test, and y is how many fail it
+pub record Parted (d : ℕ) (test : ℕ → Bool) (x y v : ℕ) : Type 0 where
+  pub left : x ≡ sum_over (λ u. when (lists d u && test u) (2 ^ u)) (below v)
+  pub lost : y ≡ sum_over (λ u. when (lists d u && not (test u)) 1) (below v)
 
 -- the tables of a row
 pub record Tables (ws ds : List ℕ) (low high : ℕ) (f g : List ℕ) : Type 0 where
   pub sound : SoundRow ws ds low high
-  pub long_f : length f ≡ table_words
-  pub long_g : length g ≡ table_words
   pub forwards : Marked (forward ws ds) f 0 (length ds + 1)
   pub backwards : Marked (backward ws ds low high) g 0 (length ds + 1)

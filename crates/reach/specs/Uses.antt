@@ -19,7 +19,7 @@ use Rattle.words.specs.Words.{word_bits, has, any, above_zero, both}
 use Rattle.words.specs.Bits.{any_cong, any_none, above_sum, above_times}
 use Rattle.reach.specs.Reach.{layer_word, layer_at, Marked, reached, leads, uses, Tables}
 use Rattle.reach.specs.Layers.{reached_down}
-use Rattle.reach.specs.Halving.{ones}
+use Rattle.reach.specs.Values.{ones}
 
 -- ---- where a value leads
 

@@ -1,7 +1,7 @@
 -- Laws of the bits of words and of lists of words, and of tests that some number passes. Assumes nothing.
-use Rattle.std.specs.Prelude.{◌≡◌, Bool, ◌&&◌, not, List, ℕ, zero, suc, ◌+◌, ◌-◌, ◌*◌, ◌/◌, ◌%◌, ◌^◌, ◌≤◌, ◌<◌, max, min, eqb, get_or, replicate}
+use Rattle.std.specs.Prelude.{◌≡◌, Bool, ◌&&◌, not, List, ℕ, zero, suc, ◌+◌, ◌-◌, ◌*◌, ◌/◌, ◌%◌, ◌^◌, ◌≤◌, ◌<◌, ◌≢◌, max, min, eqb, get_or, set, replicate}
 use Rattle.std.proofs.Math.Path.{refl, sym, ap, ap₂}
-use Rattle.std.proofs.Common.{◌∙◌, add-zero, zero-add, add-suc, mul_assoc, mul-zero, zero-mul, suc-mul, mod-lt, lt_of_lt_of_le, add-one, lit<}
+use Rattle.std.proofs.Common.{◌∙◌, add-zero, zero-add, add-suc, mul_assoc, mul-zero, zero-mul, suc-mul, mod-lt, lt_of_lt_of_le, add-one, lit<, get_or-set_other}
 use Rattle.std.proofs.Math.Bool.{true, false, ◌||◌}
 use Rattle.std.proofs.Math.Nat.{div-eq_of_lt, zero-div}
 use native.Mathlib.Omega.{arith}
@@ -92,14 +92,6 @@ bit_mod x j c h =
 pub bit_down : (x t c : ℕ) → bit (x / 2 ^ t) c ≡ bit x (t + c)
 bit_down x t c = ap (λ (n : ℕ). eqb (n % 2) 1) (shr-shr x t c)
 
--- no bit is set from the place on at which nothing is left
-pub bit_none : (x t c : ℕ) → x / 2 ^ t ≡ 0 → t ≤ c → bit x c ≡ false
-bit_none x t c e h =
-    ap (bit x) (let k : c ≡ t + (c - t) = omega arith in k)
-    ∙ sym (bit_down x t (c - t))
-    ∙ ap (λ (n : ℕ). bit n (c - t)) e
-    ∙ bit_zero (c - t)
-
 up_in : (x t c : ℕ) → t ≤ c → bit (x * 2 ^ t) c ≡ bit x (c - t)
 up_in x t c h =
     ap (bit (x * 2 ^ t)) (let e : c ≡ t + (c - t) = omega arith in e)
@@ -129,6 +121,11 @@ has_word l j c h =
     let b : (word_bits * j + c) / word_bits ≡ j = omega arith in
     let r : (word_bits * j + c) % word_bits ≡ c = omega arith in
     ap₂ (λ (i k : ℕ). bit (get_or l i 0) k) b r
+
+-- a word that is written changes no other word's bits
+pub word_other : (l : List ℕ) (j x b : ℕ) → b / word_bits ≢ j → has (set l j x) b ≡ has l b
+unfolding has
+word_other l j x b n = ap (λ (y : ℕ). bit y (b % word_bits)) (get_or-set_other l j (b / word_bits) x 0 n)
 
 -- what holds of each bit of the first n words holds of the first bits
 pub by_word : (P : ℕ → Type 0) (n : ℕ) → ((j : ℕ) → j < n → (c : ℕ) → c < word_bits → P (word_bits * j + c)) → (b : ℕ) → b < word_bits * n → P b
@@ -216,13 +213,7 @@ unfolding any
 any_plus p m zero = rw add-zero (sym (or_false (any p m)))
 any_plus p m (suc n) = rw add-suc (ap (λ (t : Bool). t || p (m + n)) (any_plus p m n) ∙ or_assoc (any p m) (any (λ k. p (m + k)) n) (p (m + n)))
 
--- what passes among the first passes among more; and where no later one does, among no more
-pub any_up : (p : ℕ → Bool) (m n : ℕ) → m ≤ n → any p m ≡ true → any p n ≡ true
-any_up p m n h e =
-    ap (any p) (let k : n ≡ m + (n - m) = omega arith in k)
-    ∙ any_plus p m (n - m)
-    ∙ ap (λ (t : Bool). t || any (λ k. p (m + k)) (n - m)) e
-
+-- where no later number passes, the first ones decide
 pub any_stop : (p : ℕ → Bool) (m n : ℕ) → m ≤ n → ((k : ℕ) → m ≤ k → p k ≡ false) → any p m ≡ any p n
 any_stop p m n h e =
     sym (ap (any p) (let k : n ≡ m + (n - m) = omega arith in k)

@@ -1,31 +1,32 @@
--- `inner::layer` meets its contract: after v halvings the set has what the values below v reach. Assumes nothing.
-use mathlib.Core.Path.{sym, ◌∙◌}
-use Prim.Native.Nat.{◌<◌}
-use native.Mathlib.Omega.{arith}
-use Rattle.sizes.specs.Sizes.{values}
+-- `inner::layer` meets its contract: the set has what the values below v reach. Assumes nothing.
+use Rattle.std.proofs.Common.{ℕ, ◌*◌, Bool, ◌||◌, ◌≡◌, ◌∙◌, sym, ap₂, eq-eqb, ne_eqb, arith}
 use Rattle.words.specs.Words.{set_words}
 use Rattle.words.specs.Bits.{has_zeros, any_zero}
-use Rattle.reach.specs.Halving.{left_all, left_half, left_below, any_value, any_end, brings_fits}
-use borrow.Author.Rules.{rules}
+use Rattle.reach.specs.Reach.{reached}
+use Rattle.reach.specs.Values.{any_listed, any_unlisted, any_end}
 use Rattle.reach.proofs.inner.layer.Goals as goal
-use Rattle.reach.proofs.inner.layer.Goals.{In-loop-rest}
+use Rattle.reach.proofs.inner.layer.Goals.{then-domain-v-eq1, else-domain-v-eq1}
 
--- a value is left
-value : (c : In-loop-rest) → c.loop-rest.v < values
-value c = left_below c.args.domain _ _ c.loop-rest.invariant.1 (omega arith) c.loop-rest-test.true
+pub loop-v-init : goal.loop-v-init
+loop-v-init c b h = has_zeros set_words b ∙ sym (any_zero _)
 
-pub loop-rest-init : goal.loop-rest-init
-loop-rest-init c = (search rules, left_all _, λ b h. has_zeros set_words b ∙ sym (any_zero _))
-
-pub overflow_mul-weight : goal.overflow_mul-weight
-overflow_mul-weight c = omega (arith, brings_fits c.args.weight c.loop-rest.v (omega arith) (value (goal.at.overflow_mul-weight c).In-loop-rest))
-
-pub loop-rest-preserved : goal.loop-rest-preserved
-loop-rest-preserved c =
-    let l = c.loop-rest in
-    (omega (arith, value (goal.at.loop-rest-preserved c).In-loop-rest), left_half _ _ _ l.invariant.1, λ b h. any_value _ _ _ _ _ _ l.invariant.1 (l.invariant.2 b h) (c.with_value-more.ensures b h))
+pub loop-v-preserved : goal.loop-v-preserved
+loop-v-preserved c b h =
+    let a = c.args in
+    let l = c.loop-v in
+    let reach = λ (u : ℕ). reached a.t.now a.from a.way (a.weight * u) b in
+    elim c.if-domain-v-eq1.branch [
+      | then-domain-v-eq1 w ↦ rw w.set-is (
+          w.add_value.ensures b h
+          ∙ ap₂ (λ (x : Bool) (n : ℕ). x || reached a.t.now a.from a.way (n * l.v) b) (l.invariant b h) w.from.ensures
+          ∙ any_listed a.domain reach l.v (eq-eqb _ _ w.if-domain-v-eq1.true)
+          )
+      | else-domain-v-eq1 w ↦ rw w.set-is (l.invariant b h ∙ any_unlisted a.domain reach l.v (ne_eqb _ _ w.if-domain-v-eq1.false))
+    ]
 
 pub returns : goal.returns
 returns c b h =
-    let l = c.loop-rest in
-    any_end _ _ _ _ _ l.invariant.1 l.invariant.0 c.loop-rest-test.false (l.invariant.2 b h)
+    let l = c.loop-v in
+    let end = c.values_end-v-end in
+    let all : l.v ≡ end.result = omega arith in
+    l.invariant b h ∙ rw all (any_end c.args.domain _ end.result end.ensures.past end.ensures.most)
