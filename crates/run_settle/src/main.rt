@@ -31,7 +31,7 @@ fn show<W: Write>(out: &mut W, name: &str, board: Board) -> io::Result<()> {
     let mut room = board.domains;
     let Tally { passes, struck } = settle(board, &mut room);
     write!(out, "{name}: passes {passes}, struck {struck}, left")?;
-    for domain in &room[..board.cells] {
+    for domain in room.iter().take(board.cells) {
         write!(out, " {domain:08x}")?;
     }
     writeln!(out)
