@@ -8,7 +8,7 @@ ghost use Rattle.counting.specs.Counting.{lists, within};
 ghost use Rattle.layers.specs.Tables.{forward_table, backward_table};
 ghost use Rattle.layers.specs.Steps.{Fillable, moved, step};
 
-use sizes::{SUMS, VALUES};
+use sizes::{HIGHEST, SUMS, VALUES};
 
 // Fills both tables of a row.
 pub fn fill(
@@ -102,7 +102,10 @@ fn push(made: &mut [u64; SUMS], from: &[u64], rise: u8, fall: u8, d: u32, v: usi
     }
     let up = usize::from(rise) * v;
     let down = usize::from(fall) * v;
-    for b in up..SUMS.saturating_sub(down) {
+    if HIGHEST < up + down {
+        return;
+    }
+    for b in up..SUMS - down {
         made[b] += from[b + down - up];
     }
 }

@@ -1,11 +1,11 @@
 // Striking a row for the floors above, which have made sure that the row is sound.
 ghost use Rattle.std.specs.Prelude.{◌≡◌, ◌||◌, not, ℕ, ◌+◌, ◌*◌, ◌^◌, ◌<◌, ◌≤◌, length};
-ghost use Rattle.sizes.specs.Sizes.{values, row_cells, highest, sums};
+ghost use Rattle.sizes.specs.Sizes.{values, row_cells, sums};
 ghost use Rattle.sizes.specs.Sound.{SoundRow};
 ghost use Rattle.listing.specs.Listing.{only};
-ghost use Rattle.counting.specs.Counting.{listed, domain_of, within, forward, backward, strike, struck};
+ghost use Rattle.counting.specs.Counting.{listed, domain_of, forward, backward, strike, struck};
 ghost use Rattle.words.specs.Words.{has};
-ghost use Rattle.reach.specs.Reach.{layer_word, layer_at, moved, reached, next, leads, uses, NewLayer, Marked, Clear};
+ghost use Rattle.reach.specs.Reach.{layer_word, moved, reached, next, leads, uses, NewLayer, Marked, Clear};
 
 use sizes::{HIGHEST, ROW_CELLS, VALUES};
 use words::inner::{SumSet, joined, meets, put, range};
@@ -25,7 +25,7 @@ fn layer_word(i: usize) -> usize
     2 * SET_WORDS * i + SET_WORDS
 }
 
-// The end of the values that a domain may list: past the greatest one.
+// The end of the values that a domain lists: past the greatest one. With 32 for every domain the Figure row costs twice as much.
 fn values_end(domain: u32) -> usize
     ensures most { result ≤ values }
     ensures past { domain < 2 ^ result }
@@ -55,28 +55,38 @@ impl Way {
     }
 }
 
-// Adds to a set what a value that brings s to the sum reaches from a layer.
-fn add_value(set: &mut SumSet, t: &Table, from: usize, way: Way, s: usize)
-    requires { from ≤ row_cells }
-    ensures { (b : ℕ) → b < sums → has set.new b ≡ (has set.old b || reached t.now from way s b) }
-{
-    if s <= HIGHEST {
-        *set = joined(*set, t, way.moved(WORD_BITS * layer_word(from), s));
-    }
+// A layer from which the sums are moved one way.
+#[derive(Clone, Copy)]
+struct Layer<'a> {
+    table: &'a Table,
+    i: usize,
+    way: Way,
+    ghost in_table: { i ≤ row_cells },
 }
 
-// What a cell reaches from a layer.
-fn layer(t: &Table, from: usize, way: Way, weight: u8, domain: u32) -> SumSet
-    requires { from ≤ row_cells }
-    ensures { (b : ℕ) → b < sums → has result b ≡ next t.now from way weight domain b }
-{
-    let mut set = [0; SET_WORDS];
-    for v in 0..values_end(domain) {
-        if (domain >> v) % 2 == 1 {
-            add_value(&mut set, t, from, way, usize::from(weight) * v);
+impl Layer<'_> {
+    // Adds to a set what a value that brings s to the sum reaches from there.
+    fn add_value(self, set: &mut SumSet, s: usize)
+        ensures { (b : ℕ) → b < sums → has set.new b ≡ (has set.old b || reached self.entry.table.now self.entry.i self.entry.way s b) }
+    {
+        let Layer { table, i, way } = self;
+        if s <= HIGHEST {
+            *set = joined(*set, table, way.moved(WORD_BITS * layer_word(i), s));
         }
     }
-    set
+
+    // What a cell reaches from there.
+    fn next(self, weight: u8, domain: u32) -> SumSet
+        ensures { (b : ℕ) → b < sums → has result b ≡ next self.entry.table.now self.entry.i self.entry.way weight domain b }
+    {
+        let mut set = [0; SET_WORDS];
+        for v in 0..values_end(domain) {
+            if (domain >> v) % 2 == 1 {
+                self.add_value(&mut set, usize::from(weight) * v);
+            }
+        }
+        set
+    }
 }
 
 // Writes layer `to` of a table: what a cell reaches from layer `from`.
@@ -84,7 +94,12 @@ fn step(t: &mut Table, from: usize, to: usize, way: Way, weight: u8, domain: u32
     requires { (from ≤ row_cells) × (to ≤ row_cells) }
     ensures { NewLayer (next t.old from way weight domain) t.old t.new to }
 {
-    let set = layer(t, from, way, weight, domain);
+    let layer = Layer {
+        table: t,
+        i: from,
+        way,
+    };
+    let set = layer.next(weight, domain);
     put(t, layer_word(to), set);
 }
 

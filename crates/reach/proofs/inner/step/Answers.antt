@@ -3,4 +3,4 @@ use Rattle.reach.specs.Layers.{new_layer}
 use Rattle.reach.proofs.inner.step.Goals as goal
 
 pub returns : goal.returns
-returns c = new_layer _ _ _ _ _ _ c.layer-set.ensures c.layer_word.ensures c.put.ensures
+returns c = new_layer _ _ _ _ _ _ c.next-set.ensures c.layer_word.ensures c.put.ensures
