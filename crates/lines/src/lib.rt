@@ -28,8 +28,7 @@ pub fn named<W: Write>(out: &mut W, name: &[u8], number: usize) -> io::Result<()
 pub fn refused<W: Write>(out: &mut W, number: u8) -> io::Result<()>
     ensures { OnOk result (Appends (W.contents out.old) (W.contents out.new) (refused_text number)) }
 {
-    named(out, b"REFUSED ", number as usize)?;
-    text(out, b"\n")
+    writeln!(out, "REFUSED {number}")
 }
 
 // How a search ended, and how many of the choices given it followed. No more are left than were given (`left_most`), so nothing wraps.
@@ -37,8 +36,8 @@ pub fn ended<W: Write>(out: &mut W, word: &[u8], given: u64, left: u64) -> io::R
     ensures { left ≤ given → OnOk result (Appends (W.contents out.old) (W.contents out.new) (ended_text word.now given left)) }
 {
     text(out, word)?;
-    named(out, b" FOLLOWED ", given.wrapping_sub(left) as usize)?;
-    named(out, b" LEFT ", left as usize)
+    let followed = given.wrapping_sub(left);
+    write!(out, " FOLLOWED {followed} LEFT {left}")
 }
 
 // The values left in each cell of a board, a line for each of so many cells.
@@ -57,10 +56,9 @@ fn cell_line<W: Write>(out: &mut W, cells: usize, cell: usize, domain: u32) -> i
     if cells <= cell {
         return Ok(());
     }
-    named(out, b"CELL ", cell)?;
-    text(out, b" VALUES")?;
+    write!(out, "CELL {cell} VALUES")?;
     values(out, domain)?;
-    text(out, b"\n")
+    writeln!(out)
 }
 
 // The values that a domain lists.
@@ -68,7 +66,7 @@ pub fn values<W: Write>(out: &mut W, domain: u32) -> io::Result<()>
     ensures { OnOk result (Appends (W.contents out.old) (W.contents out.new) (values_text domain)) }
 {
     if domain == 0 {
-        text(out, b" NONE")?;
+        write!(out, " NONE")?;
     }
     for value in 0..VALUES {
         if_listed(out, domain, value)?;
@@ -77,13 +75,11 @@ pub fn values<W: Write>(out: &mut W, domain: u32) -> io::Result<()>
 }
 
 fn if_listed<W: Write>(out: &mut W, domain: u32, value: usize) -> io::Result<()>
-    ensures { value < values → OnOk result (Appends (W.contents out.old) (W.contents out.new) (value_text domain value)) }
+    requires { value < values }
+    ensures { OnOk result (Appends (W.contents out.old) (W.contents out.new) (value_text domain value)) }
 {
-    if VALUES <= value {
-        return Ok(());
-    }
     if (domain >> value) % 2 == 1 {
-        named(out, b" ", value)?;
+        write!(out, " {value}")?;
     }
     Ok(())
 }
