@@ -2,10 +2,15 @@
 // ended and what the domain room then holds.
 #![tactic(auto)]
 
+ghost use Rattle.std.specs.Prelude.{OnOk};
+ghost use Rattle.std.specs.Io.KnownBytes.{Appends};
+ghost use Rattle.finish.specs.Finished.{finish_text};
+
 use digits::number_of;
 use inputs::{arg, read_full};
 use lines::{cells, ended, refused, text};
-use search::{Answer, search};
+use reader::read;
+use search::{Ending, search};
 use sizes::{BOARD_CELLS, FILE, STACK, TABLE};
 use std::io;
 use std::io::Write;
@@ -17,20 +22,22 @@ const INPUT: usize = FILE + 1;
 const WORD: usize = 4096;
 
 fn main(rt: HostRuntime) -> io::Result<()> {
-    let mut word = [0u8; WORD];
+    let mut word = [0; WORD];
     let n = arg(&rt, 1, &mut word);
-    let mut input = [0u8; INPUT];
+    let mut input = [0; INPUT];
     let size = read_full(&mut rt.reader(), &mut input)?;
     let mut out = io::writer(&rt);
     finish(&mut out, &input[..size], number_of(&word[..n]))
 }
 
-fn finish<W: Write>(out: &mut W, file: &[u8], given: u64) -> io::Result<()> {
+fn finish<W: Write>(out: &mut W, file: &[u8], given: u64) -> io::Result<()>
+    ensures { OnOk result (Appends (W.contents out.old) (W.contents out.new) (finish_text file.now given)) }
+{
     let mut left = given;
-    let mut room = [0u32; BOARD_CELLS];
-    let mut stack = [0u32; STACK];
-    let mut forward = [0u64; TABLE];
-    let mut backward = [0u64; TABLE];
+    let mut room = [0; BOARD_CELLS];
+    let mut stack = [0; STACK];
+    let mut forward = [0; TABLE];
+    let mut backward = [0; TABLE];
     match search(
         file,
         &mut left,
@@ -39,13 +46,11 @@ fn finish<W: Write>(out: &mut W, file: &[u8], given: u64) -> io::Result<()> {
         &mut forward,
         &mut backward,
     ) {
-        Answer::Solved => ended(out, b"SOLVED", given, left)?,
-        Answer::None => ended(out, b"NONE", given, left)?,
-        Answer::Spent => ended(out, b"SPENT", given, left)?,
-        Answer::Refused(number) => return refused(out, number),
+        Ok(Ending::Solved) => ended(out, b"SOLVED", given, left)?,
+        Ok(Ending::None) => ended(out, b"NONE", given, left)?,
+        Ok(Ending::Spent) => ended(out, b"SPENT", given, left)?,
+        Err(refusal) => return refused(out, refusal.number()),
     }
     text(out, b"\n")?;
-    let reading = reader::read(file);
-    let board = reading.board;
-    cells(out, board.cells, room)
+    cells(out, read(file).board.cells, room)
 }

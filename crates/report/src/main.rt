@@ -1,11 +1,17 @@
-// Reports on the board file on standard input, in the lines of document 01.
+// Reports on the board file on standard input, in the lines of the scope document.
 #![tactic(auto)]
 
-use advice::{Answer, advise};
+ghost use Rattle.std.specs.Prelude.{◌≡◌, [], OnOk, cond, ltb};
+ghost use Rattle.std.specs.Io.KnownBytes.{Appends};
+ghost use Rattle.sizes.specs.Sizes.{board_rows};
+ghost use Rattle.choose.specs.Advice.{told};
+ghost use Rattle.report.specs.Reporting.{tally_text, total_of_text, domain_named, domains_named, line_text, lines_text, choice_text, report_text};
+
+use advice::{Advised, advise};
 use board::{Board, Row};
 use choose::Advice;
 use inputs::read_full;
-use lines::{cells, named, refused, text};
+use lines::{cells, refused};
 use reader::read;
 use settle::Tally;
 use sizes::{BOARD_CELLS, BOARD_ROWS, FILE, ROW_CELLS, TABLE};
@@ -16,21 +22,22 @@ use std::io::Write;
 const INPUT: usize = FILE + 1;
 
 fn main(rt: HostRuntime) -> io::Result<()> {
-    let mut input = [0u8; INPUT];
+    let mut input = [0; INPUT];
     let n = read_full(&mut rt.reader(), &mut input)?;
     let mut out = io::writer(&rt);
     report(&mut out, &input[..n])
 }
 
-fn report<W: Write>(out: &mut W, file: &[u8]) -> io::Result<()> {
-    let mut room = [0u32; BOARD_CELLS];
-    let mut forward = [0u64; TABLE];
-    let mut backward = [0u64; TABLE];
+fn report<W: Write>(out: &mut W, file: &[u8]) -> io::Result<()>
+    ensures { OnOk result (Appends (W.contents out.old) (W.contents out.new) (report_text file.now)) }
+{
+    let mut room = [0; BOARD_CELLS];
+    let mut forward = [0; TABLE];
+    let mut backward = [0; TABLE];
     match advise(file, &mut room, &mut forward, &mut backward) {
-        Answer::Refused(number) => refused(out, number),
-        Answer::Advised { tally, advice } => {
-            let reading = read(file);
-            let board = reading.board;
+        Err(refusal) => refused(out, refusal.number()),
+        Ok(Advised { tally, advice }) => {
+            let board = read(file).board;
             sizes_and_tally(out, board.cells, board.rows, tally)?;
             cells(out, board.cells, room)?;
             totals(out, board, room)?;
@@ -39,25 +46,22 @@ fn report<W: Write>(out: &mut W, file: &[u8]) -> io::Result<()> {
     }
 }
 
-fn sizes_and_tally<W: Write>(
-    out: &mut W,
-    cells: usize,
-    rows: usize,
-    tally: Tally,
-) -> io::Result<()> {
-    named(out, b"CELLS ", cells)?;
-    named(out, b" LINES ", rows)?;
-    named(out, b"\nPASSES ", tally.passes)?;
-    named(out, b" STRUCK ", tally.struck)?;
-    text(out, b"\n")
+fn sizes_and_tally<W: Write>(out: &mut W, cells: usize, rows: usize, tally: Tally) -> io::Result<()>
+    ensures { OnOk result (Appends (W.contents out.old) (W.contents out.new) (tally_text cells rows tally.passes tally.struck)) }
+{
+    let Tally { passes, struck } = tally;
+    writeln!(
+        out,
+        "CELLS {cells} LINES {rows}\nPASSES {passes} STRUCK {struck}"
+    )
 }
 
 // Each row's total over the settled domains.
-fn totals<W: Write>(out: &mut W, board: Board, room: [u32; BOARD_CELLS]) -> io::Result<()> {
-    let rows = board.rows;
+fn totals<W: Write>(out: &mut W, board: Board, room: [u32; BOARD_CELLS]) -> io::Result<()>
+    ensures { OnOk result (Appends (W.contents out.old) (W.contents out.new) (lines_text board room board_rows)) }
+{
     for line in 0..BOARD_ROWS {
-        let row = board.lines[line];
-        line_total(out, rows, line, row, room)?;
+        line_total(out, board.rows, line, board.lines[line], room)?;
     }
     Ok(())
 }
@@ -68,28 +72,32 @@ fn line_total<W: Write>(
     line: usize,
     row: Row,
     room: [u32; BOARD_CELLS],
-) -> io::Result<()> {
+) -> io::Result<()>
+    ensures { OnOk result (Appends (W.contents out.old) (W.contents out.new) (cond (ltb line rows) (line_text line row room) [])) }
+{
     if rows <= line {
         return Ok(());
     }
-    named(out, b"LINE ", line)?;
-    let names = row.names;
-    let weights = row.weights;
-    let domains = domains_of(names, room);
-    total_of(out, &weights, &domains, row.len, row.low, row.high)?;
-    text(out, b"\n")
+    write!(out, "LINE {line}")?;
+    let domains = domains_of(row.names, room);
+    total_of(out, &row.weights, &domains, row.len, row.low, row.high)?;
+    writeln!(out)
 }
 
 // The domains of the named cells, and none for a cell that no board has.
-fn domains_of(names: [usize; ROW_CELLS], room: [u32; BOARD_CELLS]) -> [u32; ROW_CELLS] {
-    let mut domains = [0u32; ROW_CELLS];
+fn domains_of(names: [usize; ROW_CELLS], room: [u32; BOARD_CELLS]) -> [u32; ROW_CELLS]
+    ensures { result ≡ domains_named names room }
+{
+    let mut domains = [0; ROW_CELLS];
     for k in 0..ROW_CELLS {
         domains[k] = domain_of(names[k], room);
     }
     domains
 }
 
-fn domain_of(cell: usize, room: [u32; BOARD_CELLS]) -> u32 {
+fn domain_of(cell: usize, room: [u32; BOARD_CELLS]) -> u32
+    ensures { result ≡ domain_named room cell }
+{
     if BOARD_CELLS <= cell {
         return 0;
     }
@@ -97,6 +105,7 @@ fn domain_of(cell: usize, room: [u32; BOARD_CELLS]) -> u32 {
 }
 
 // The total of the row of the first len cells.
+#[tactic(auto, unfolding(crate::specs::Reporting::total_of_text))]
 fn total_of<W: Write>(
     out: &mut W,
     weights: &[u8],
@@ -104,15 +113,14 @@ fn total_of<W: Write>(
     len: usize,
     low: usize,
     high: usize,
-) -> io::Result<()> {
-    if weights.len() < len {
+) -> io::Result<()>
+    ensures { OnOk result (Appends (W.contents out.old) (W.contents out.new) (total_of_text weights.now domains.now len low high)) }
+{
+    if weights.len() < len || domains.len() < len {
         return Ok(());
     }
-    if domains.len() < len {
-        return Ok(());
-    }
-    let mut forward = [0u64; TABLE];
-    let mut backward = [0u64; TABLE];
+    let mut forward = [0; TABLE];
+    let mut backward = [0; TABLE];
     match row::total(
         &weights[..len],
         &domains[..len],
@@ -121,15 +129,20 @@ fn total_of<W: Write>(
         &mut forward,
         &mut backward,
     ) {
-        row::Answer::Number(total) => named(out, b" TOTAL ", total as usize),
-        row::Answer::Refused(number) => named(out, b" REFUSED ", number as usize),
+        Ok(total) => write!(out, " TOTAL {total}"),
+        Err(refusal) => {
+            let number = refusal.number();
+            write!(out, " REFUSED {number}")
+        }
     }
 }
 
-fn last_line<W: Write>(out: &mut W, advice: Advice) -> io::Result<()> {
+fn last_line<W: Write>(out: &mut W, advice: Advice) -> io::Result<()>
+    ensures { OnOk result (Appends (W.contents out.old) (W.contents out.new) (choice_text (told advice))) }
+{
     match advice {
-        Advice::Dead => text(out, b"DEAD\n"),
-        Advice::Settled => text(out, b"SETTLED\n"),
+        Advice::Dead => writeln!(out, "DEAD"),
+        Advice::Settled => writeln!(out, "SETTLED"),
         Advice::Advise {
             cell,
             value,
@@ -137,13 +150,9 @@ fn last_line<W: Write>(out: &mut W, advice: Advice) -> io::Result<()> {
             count,
             total,
             share: _,
-        } => {
-            named(out, b"ADVICE CELL ", cell)?;
-            named(out, b" VALUE ", value)?;
-            named(out, b" LINE ", row)?;
-            named(out, b" COUNT ", count as usize)?;
-            named(out, b" TOTAL ", total as usize)?;
-            text(out, b"\n")
-        }
+        } => writeln!(
+            out,
+            "ADVICE CELL {cell} VALUE {value} LINE {row} COUNT {count} TOTAL {total}"
+        ),
     }
 }
