@@ -1,5 +1,5 @@
 -- What the code's tie orders, candidates and leaders say, for every case. Definitions only.
-use Rattle.std.specs.Prelude.{Bool, true, false, ◌<◌, Option, None, Some}
+use Rattle.std.specs.Prelude.{Bool, true, false, ◌<◌, Option, None, Some, IfSome}
 use Rattle.choosing.specs.Choosing as choosing
 use Rattle.choosing.specs.Going as going
 use Rattle.beat.specs.declared.Ties.{Ties}
@@ -25,5 +25,4 @@ leader_of (Some x) = going.leads (candidate_of x)
 
 -- the leader has a density
 abbrev pub HasTotal : Option Candidate → Type 0
-HasTotal None = Unit {0}
-HasTotal (Some x) = 0 < x.total
+HasTotal leader = IfSome leader (λ x. 0 < x.total)

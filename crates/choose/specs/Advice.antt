@@ -6,7 +6,7 @@ use Rattle.choosing.specs.Choosing.{Choice, dead, settled, advise}
 use Rattle.choose.specs.declared.Advice.{Advice}
 use Rattle.choose.specs.declared.Advice.TheVariants.{Dead, Settled, Advise}
 
--- document 01's word and values for every case of the answer
+-- the word and the values for every case of the answer
 abbrev pub told : Advice → Choice
 told Dead = dead
 told Settled = settled

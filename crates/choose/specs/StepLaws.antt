@@ -1,115 +1,165 @@
 -- What each step of the choice adds to the best so far. Assumes nothing.
-use Rattle.std.specs.Prelude.{◌≡◌, refl, true, ℕ, zero, suc, ◌+◌, ◌/◌, ◌%◌, ◌^◌, ◌≤◌, ◌<◌, eqb, length, get_or}
-use Rattle.std.proofs.Common.{sym, ap, ap₂, ◌∙◌, le_trans, arith}
+use Rattle.std.specs.Prelude.{None, ◌≡◌, refl, true, ℕ, zero, suc, ◌+◌, ◌*◌, ◌/◌, ◌%◌, ◌^◌, ◌≤◌, ◌<◌, eqb, length, get_or, take}
+use Rattle.std.proofs.Common.{subst, sym, ap, ap₂, ◌∙◌, le_trans, arith, add-one, add_comm, mod-eq_of_lt, pow_pos}
 use mathlib.Core.List.{List, [], flat_map}
+use lib.Count.{ones, ones_in, ones_cat}
+use Rattle.std.proofs.lemmas.Nat.{mod-pow-add, mod_below}
 use Rattle.told.specs.Told.{when}
 use Rattle.sizes.specs.Sizes.{values, row_cells, table_size}
 use Rattle.sizes.specs.Sound.{SoundRow}
 use Rattle.listing.specs.Listing.{keep, below, sum_over, onto}
-use Rattle.listing.specs.Sums.{sum_nil, sum_turn}
+use Rattle.listing.specs.Sums.{sum_nil, sum_below}
 use Rattle.listing.specs.Places.{place_length, place_at, place_member}
 use Rattle.listing.specs.Members.{flat_same, at_in}
-use Rattle.counting.specs.Counting.{lists, listed, count, total as counted}
+use Rattle.counting.specs.Counting.{lists, listed, total as counted}
 use Rattle.counting.proofs.Counts.{count_total}
 use Rattle.counting.proofs.Domains.{listed_ones}
 use Rattle.board.specs.declared.Row.{Row as Line}
 use Rattle.board.specs.declared.Board.{Board}
 use Rattle.board.specs.Board.{row_at}
-use Rattle.board.specs.Sound.{SoundBoard}
-use Rattle.settling.specs.Settling.{Row, ◌∈◌, Fits, Supported, gather}
+use Rattle.board.specs.Sound.{SoundLine, SoundBoard}
+use Rattle.settling.specs.Settling.{Row, ◌∈◌, Supported, gather}
 use Rattle.settling.specs.Cells.{gather_length}
-use Rattle.settling.specs.Boards.{row_of, rows_to, rows_of}
+use Rattle.settling.specs.Boards.{row_with, row_of, rows_to, rows_of}
+use Rattle.settling.proofs.BoardLaws.{row_fronts, sound_fits}
+use Rattle.std.proofs.Math.Seq.{length-take-le}
 use Rattle.layers.specs.Tables.{forward_table, backward_table}
 use Rattle.layers.specs.TableLaws.{forward_length, backward_length, holds_onto}
-use Rattle.choosing.specs.Choosing.{Ties, no_row, domain_at, of_place, of_row, candidates}
+use Rattle.beat.specs.declared.Ties.{Ties}
+use Rattle.beat.specs.declared.Candidate.{Candidate as Cand}
+use Rattle.choosing.specs.Choosing.{Candidate, candidate, no_row, domain_at, of_place, of_row, candidates}
 use Rattle.choosing.specs.Choosing as choosing
-use Rattle.choosing.specs.Going.{Leader, through}
-use Rattle.choosing.proofs.GoingLaws.{through_none, through_end}
+use Rattle.choosing.specs.Going.{nobody, through}
+use Rattle.choosing.proofs.GoingLaws.{through_none, through_start, through_turn}
 use Rattle.choosing.proofs.CandidateLaws.{of_value, place_several, place_few}
-use Rattle.choose.specs.Steps.{SameRest, Ready}
+use Rattle.beat.specs.Beat.{ties_of, candidate_of, leader_of}
+use Rattle.choose.specs.declared.best.Best.{Best}
+use Rattle.choose.specs.declared.Tables.{Tables}
+use Rattle.choose.specs.Steps.{SameRest, Ready, Kept, After}
 use Rattle.choose.specs.AdviceLaws.{filled_kept}
 
--- ---- how many values below n a domain lists, and how many in all
+-- ---- how many values a domain lists
 
-abbrev pub ones : ℕ → ℕ → ℕ
-ones d n = sum_over (λ v. when (lists d v) 1) (below n)
-
-bit_ones : (b : ℕ) → b < 2 → b ≡ when (eqb b 1) 1
+bit_ones : (b : ℕ) → b < 2 → ones b ≡ when (eqb b 1) 1
+unfolding ones ones_in
 bit_ones zero h = refl
 bit_ones (suc zero) h = refl
 bit_ones (suc (suc b)) h = absurd (omega arith)
 
-pub ones_none : (d : ℕ) → 0 ≡ ones d 0
-ones_none d = sym (sum_nil _)
+-- those below k
+ones_below : (d k : ℕ) → ones (d % 2 ^ k) ≡ sum_over (λ v. when (lists d v) 1) (below k)
+ones_below d zero = let none : d % 2 ^ 0 ≡ 0 = omega arith in ap ones none ∙ bit_ones 0 (omega arith) ∙ sym (sum_nil _)
+ones_below d (suc k) =
+    let bit = d / 2 ^ k % 2 in
+    let rest = d % 2 ^ k in
+    let parts : d % 2 ^ suc k ≡ bit * 2 ^ k + rest = ap (λ (n : ℕ). d % 2 ^ n) (sym (add-one k) ∙ add_comm k 1) ∙ mod-pow-add d 1 k in
+    ap ones parts
+    ∙ ones_cat k bit rest (mod_below d (2 ^ k) (pow_pos k))
+    ∙ ap₂ ◌+◌ (bit_ones bit (omega arith)) (ones_below d k)
+    ∙ add_comm _ _
+    ∙ sym (sum_below (λ v. when (lists d v) 1) k)
 
-pub ones_turn : (d v n : ℕ) → n ≡ ones d v → n + d / 2 ^ v % 2 ≡ ones d (v + 1)
-ones_turn d v n e = ap₂ ◌+◌ e (bit_ones (d / 2 ^ v % 2) (omega arith)) ∙ sum_turn (λ u. when (lists d u) 1) v
+pub ones_listed : (d : ℕ) → d < 2 ^ values → ones d ≡ length (listed d)
+ones_listed d h = ap ones (sym (mod-eq_of_lt h)) ∙ ones_below d values ∙ sym (listed_ones d)
 
-pub ones_end : (d v n : ℕ) → v ≤ values → values ≤ v → n ≡ ones d v → n ≡ length (listed d)
-ones_end d v n l h e = let same : v ≡ values = omega arith in e ∙ ap (ones d) same ∙ sym (listed_ones d)
+-- ---- the tables, as a loop goes on
 
--- ---- the values of a place: n of them, too few to choose from, or gone through
+pub kept_start : (t : Tables) → Kept t t
+kept_start t = record { rooms = (refl, refl); forward = refl; backward = refl }
 
-module _ (o : Ties) (b : Leader) (i : ℕ) (r : Row) (d : List ℕ) (p n : ℕ) (e : n ≡ length (listed (domain_at r d p))) where
-  pub few_values : n < 2 → b ≡ through o b (of_place i r d p)
-  few_values h = through_none o b ∙ ap (through o b) (place_few i r d p (omega arith))
+pub kept_turn : (old now new : Tables) → Kept old now → Kept now new → Kept old new
+kept_turn old now new k l =
+    record {
+      rooms = (l.rooms.0 ∙ k.rooms.0, l.rooms.1 ∙ k.rooms.1);
+      forward = l.forward ∙ k.forward;
+      backward = l.backward ∙ k.backward;
+    }
 
-  pub many_values : 2 ≤ n → (l : Leader) (v : ℕ) → v ≤ values → values ≤ v → l ≡ through o b (flat_map (of_value i r d p) (below v)) → l ≡ through o b (of_place i r d p)
-  many_values h l v k m q = through_end o (of_value i r d p) b v values l k m q ∙ ap (through o b) (place_several i r d p (omega arith))
+-- ---- the best so far, as a loop goes through lists
 
--- ---- a row whose tables are filled
+module _ (f : ℕ → List Candidate) (b : Best) where
+  pub after_start : After b (flat_map f (below 0)) b
+  after_start = record { same_ties = refl; leader = through_start (ties_of b.ties) f (leader_of b.leader) }
 
-module _ {r : Row} {d part : List ℕ} {total : ℕ} {forward backward : List ℕ} (ready : Ready r d part total forward backward) where
-  pub ready_place : (p : ℕ) → p < length r.cells → p < length part
-  ready_place p l = rw ready.part_is (omega (arith, gather_length d r.cells))
+  pub after_turn : (n : ℕ) (m r : Best) → After b (flat_map f (below n)) m → After m (f n) r → After b (flat_map f (below (n + 1))) r
+  after_turn n m r e q =
+      record {
+        same_ties = q.same_ties ∙ e.same_ties;
+        leader = through_turn (ties_of b.ties) f (leader_of b.leader) n (leader_of m.leader) (leader_of r.leader) e.leader (rw e.same_ties at q.leader);
+      }
 
-  -- a value that is left has a count above 0, and so the row a total
-  pub ready_total : (p v : ℕ) → p < length r.cells → v < values → lists (domain_at r d p) v ≡ true → 0 < total
-  ready_total p v l k e =
-      rw ready.total_is
-      (le_trans (ready.supported p v l k e)
-      (count_total r.weights (gather d r.cells) r.low r.high p (omega (arith, gather_length d r.cells)) v k))
+  pub after_end : (n k : ℕ) (r : Best) → n ≤ k → k ≤ n → After b (flat_map f (below n)) r → After b (flat_map f (below k)) r
+  after_end n k r l h e = let same : n ≡ k = omega arith in rw same at e
 
-  -- what the code's candidate brings
-  pub ready_value : (o : Ties) (b l : Leader) (i p v n : ℕ) → n ≡ count r.weights part r.low r.high p v
-      → l ≡ through o b (keep (lists (domain_at r d p) v) (record { row = i; cell = get_or r.cells p 0; value = v; count = n; total = total }) [])
-      → l ≡ through o b (of_value i r d p v)
-  ready_value o b l i p v n e q =
-      q
-      ∙ ap₂ (λ (m t : ℕ). through o b (keep (lists (domain_at r d p) v) (record { row = i; cell = get_or r.cells p 0; value = v; count = m; total = t }) []))
-      (e ∙ ap (λ (ds : List ℕ). count r.weights ds r.low r.high p v) ready.part_is) ready.total_is
+-- from none, it is what going through the list comes to
+pub after_none : (ties : Ties) (b r : Best) (xs : List Candidate) → b.ties ≡ ties → b.leader ≡ None → After b xs r → leader_of r.leader ≡ through (ties_of ties) nobody xs
+after_none ties b r xs e h a = rw (e, h) at a.leader
+
+-- ---- the values of a place: too few to choose from, or gone through
+
+module _ (b : Best) (i : ℕ) (r : Row) (d : List ℕ) (p : ℕ) where
+  pub few_values : length (listed (domain_at r d p)) < 2 → After b (of_place i r d p) b
+  few_values h =
+      record {
+        same_ties = refl;
+        leader = through_none (ties_of b.ties) (leader_of b.leader) ∙ ap (through (ties_of b.ties) (leader_of b.leader)) (place_few i r d p (omega arith));
+      }
+
+  pub many_values : 2 ≤ length (listed (domain_at r d p)) → (l : Best) → After b (flat_map (of_value i r d p) (below values)) l → After b (of_place i r d p) l
+  many_values h l e = rw (place_several i r d p (omega arith)) at e
+
+-- ---- the code's candidate of a value
+
+module _ (x : Cand) (i : ℕ) (r : Row) (d : List ℕ) (p v : ℕ) (e : candidate_of x ≡ candidate i r d p v) where
+  -- where its value is listed it has a count above 0, and so the row a total
+  pub candidate_live : Supported d r → p < length r.cells → v < values → (x.value < values) × (lists (domain_at r d p) x.value ≡ true → 0 < x.total)
+  candidate_live supported l k =
+      subst (λ (y : Candidate). (y.value < values) × (lists (domain_at r d p) y.value ≡ true → 0 < y.total)) (sym e)
+      (k, λ listed. le_trans (supported p v l k listed) (count_total r.weights (gather d r.cells) r.low r.high p (omega (arith, gather_length d r.cells)) v k))
+
+  pub candidate_brings : (b n : Best) → After b (keep (lists (domain_at r d p) x.value) (candidate_of x) []) n → After b (of_value i r d p v) n
+  candidate_brings b n h = subst (λ (y : Candidate). After b (keep (lists (domain_at r d p) y.value) y []) n) e h
 
 -- ---- a row whose domains were gathered, and its tables filled
 
-module _ (r : Row) (d held part forward backward f g : List ℕ) (fits : Fits (length d) r) (sound : SoundRow r.weights held r.low r.high) where
-  sound_part : part ≡ gather d r.cells → SoundRow r.weights part r.low r.high
-  sound_part e =
-      let same : length part ≡ length held = ap length e ∙ gather_length d r.cells ∙ sym fits.lengths ∙ sound.same in
-      record { some = omega (arith, sound.some); most = omega (arith, sound.most); same = sound.same ∙ sym same; ordered = sound.ordered; limit = sound.limit }
+module _ (line : Line) (d part forward backward f g : List ℕ) (sound : SoundLine (length d) line) (n : line.len ≤ length line.names) (m : line.len ≤ length line.weights)
+    (gathered : part ≡ gather d (take line.len line.names))
+    (forwards : f ≡ onto (forward_table (take line.len line.weights) part) forward)
+    (backwards : g ≡ onto (backward_table (take line.len line.weights) part line.low line.high) backward) where
+  abbrev row : Row
+  row = row_with (take line.len line.names) (take line.len line.weights) line.low line.high
+
+  fronts : row ≡ row_of line
+  fronts = row_fronts line n m
+
+  sound_part : SoundRow row.weights part line.low line.high
+  sound_part =
+      let long : length part ≡ line.len = ap length gathered ∙ gather_length d row.cells ∙ length-take-le line.len line.names n in
+      record {
+        some = omega (arith, sound.head.some);
+        most = omega (arith, sound.head.most);
+        same = length-take-le line.len line.weights m ∙ sym long;
+        ordered = sound.head.ordered;
+        limit = sound.head.limit;
+      }
 
   -- it is ready
-  pub fill_ready : (total : ℕ) → Supported d r → part ≡ gather d r.cells
-      → (total ≡ counted r.weights part r.low r.high)
-      × ((f ≡ onto (forward_table r.weights part) forward) × (g ≡ onto (backward_table r.weights part r.low r.high) backward))
-      → Ready r d part total f g
-  fill_ready total supported e filled =
+  pub fill_ready : (total : ℕ) → Supported d (row_of line) → total ≡ counted row.weights part line.low line.high → Ready row d part total f g
+  fill_ready total supported e =
       record {
-        fits = fits;
-        supported = supported;
-        part_is = e;
-        total_is = filled.0 ∙ ap (λ (ds : List ℕ). counted r.weights ds r.low r.high) e;
-        filled = record { sound = sound_part e; forwards = holds_onto _ forward f filled.1.0; backwards = holds_onto _ backward g filled.1.1 };
+        fits = rw fronts (sound_fits _ line sound);
+        supported = subst (λ (r : Row). Supported d r) (sym fronts) supported;
+        part_is = gathered;
+        total_is = e ∙ ap (λ (ds : List ℕ). counted row.weights ds line.low line.high) gathered;
+        filled = record { sound = sound_part; forwards = holds_onto _ forward f forwards; backwards = holds_onto _ backward g backwards };
       }
 
   -- and the tables are kept
-  pub fill_kept : table_size ≤ length forward → table_size ≤ length backward → part ≡ gather d r.cells
-      → (f ≡ onto (forward_table r.weights part) forward) × (g ≡ onto (backward_table r.weights part r.low r.high) backward)
-      → SameRest forward f × SameRest backward g
-  fill_kept long wide e filled =
-      let most = (sound_part e).most in (
-        filled_kept _ forward f (length part) (forward_length r.weights part) most long filled.0,
-        filled_kept _ backward g (length part) (backward_length r.weights part r.low r.high) most wide filled.1,
-      )
+  pub fill_kept : table_size ≤ length forward → table_size ≤ length backward → SameRest forward f × SameRest backward g
+  fill_kept long wide = (
+    filled_kept _ forward f (length part) (forward_length row.weights part) sound_part.most long forwards,
+    filled_kept _ backward g (length part) (backward_length row.weights part line.low line.high) sound_part.most wide backwards,
+  )
 
 -- ---- the rows of a board's record
 

@@ -11,7 +11,7 @@ use inner::ordered;
 use std::cmp::Ordering;
 use told::Refusal;
 
-// Ranks c1 / t1 against c2 / t2 as exact fractions. Refuses a total of 0.
+// Ranks c1 / t1 against c2 / t2 as exact fractions. Refuses a total of 0. The four numbers stand apart, as in the C call of this name.
 pub fn rank(c1: u64, t1: u64, c2: u64, t2: u64) -> Result<Ordering, Refusal>
     ensures { told result ≡ rank_says c1 t1 c2 t2 }
 {

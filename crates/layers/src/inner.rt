@@ -34,8 +34,13 @@ fn fill_forward(weights: &[u8], domains: &[u32], table: &mut [u64])
 {
     start(table, 0, 0, 0);
     for i in 0..domains.len() {
+        let arcs = Arcs {
+            rise: weights[i],
+            fall: 0,
+            domain: domains[i],
+        };
         let from = SUMS * i;
-        next(table, from, from + SUMS, weights[i], 0, domains[i]);
+        arcs.next(table, from, from + SUMS);
     }
 }
 
@@ -47,12 +52,17 @@ fn fill_backward(weights: &[u8], domains: &[u32], low: usize, high: usize, table
     let n = domains.len();
     start(table, low, high, SUMS * n);
     for i in (0..n).rev() {
+        let arcs = Arcs {
+            rise: 0,
+            fall: weights[i],
+            domain: domains[i],
+        };
         let to = SUMS * i;
-        next(table, to + SUMS, to, 0, weights[i], domains[i]);
+        arcs.next(table, to + SUMS, to);
     }
 }
 
-// The layer of a row with no cells: one way to choose nothing, where the sum is from low to high.
+// The layer of a row with no cells: one way to choose nothing, where the sum is from low to high. Place by place: two calls of `fill` were slower.
 fn start(table: &mut [u64], low: usize, high: usize, at: usize)
     requires { at + sums ≤ length table.old }
     ensures { Written (λ k. when (within low high (k - at)) 1) table.old table.new at (at + sums) }
@@ -69,48 +79,58 @@ fn one_within(low: usize, high: usize, b: usize) -> u64
     u64::from(low <= b && b <= high)
 }
 
-// Writes at `to` the layer that follows from the one at `from`: made in a copy, and stored.
-fn next(table: &mut [u64], from: usize, to: usize, rise: u8, fall: u8, d: u32)
-    requires { (from + sums ≤ length table.old) × (to + sums ≤ length table.old) × ((b : ℕ) → b < sums → step table.old from rise fall d b < 2 ^ 64) }
-    ensures { Written (λ k. step table.old from rise fall d (k - to)) table.old table.new to (to + sums) }
-{
-    let made = layer(&table[from..from + SUMS], rise, fall, d);
-    table[to..to + SUMS].copy_from_slice(&made);
+// The arcs of a cell from one layer to the one beside it: each value v that the domain lists leads up by rise * v and down by fall * v sums.
+#[derive(Clone, Copy)]
+struct Arcs {
+    rise: u8,
+    fall: u8,
+    domain: u32,
 }
 
-// The layer that follows from another: the sum of what each listed value brings.
-#[tactic(auto, using(crate::specs::StepLaws::brings))]
-fn layer(from: &[u64], rise: u8, fall: u8, d: u32) -> [u64; SUMS]
-    requires { (length from.now ≡ sums) × ((b : ℕ) → b < sums → step from.now 0 rise fall d b < 2 ^ 64) }
-    ensures { (b : ℕ) → b < sums → get_or result b 0 ≡ step from.now 0 rise fall d b }
-{
-    let mut made = [0u64; SUMS];
-    for v in 0..VALUES {
-        push(&mut made, from, rise, fall, d, v);
+impl Arcs {
+    // Writes at `to` the layer that follows from the one at `from`: made in a copy, and stored.
+    fn next(self, table: &mut [u64], from: usize, to: usize)
+        requires { (from + sums ≤ length table.old) × (to + sums ≤ length table.old) × ((b : ℕ) → b < sums → step table.old from self.rise self.fall self.domain b < 2 ^ 64) }
+        ensures { Written (λ k. step table.old from self.rise self.fall self.domain (k - to)) table.old table.new to (to + sums) }
+    {
+        let made = self.layer(&table[from..from + SUMS]);
+        table[to..to + SUMS].copy_from_slice(&made);
     }
-    made
+
+    // The layer that follows from another: the sum of what each listed value brings.
+    #[tactic(auto, using(crate::specs::StepLaws::brings))]
+    fn layer(self, from: &[u64]) -> [u64; SUMS]
+        requires { (length from.now ≡ sums) × ((b : ℕ) → b < sums → step from.now 0 self.rise self.fall self.domain b < 2 ^ 64) }
+        ensures { (b : ℕ) → b < sums → get_or result b 0 ≡ step from.now 0 self.rise self.fall self.domain b }
+    {
+        let mut made = [0u64; SUMS];
+        for v in 0..VALUES {
+            self.push(&mut made, from, v);
+        }
+        made
+    }
+
+    // Adds what the value v brings, if it is listed: the layer `from`, moved along its arc. What would be moved past the last sum is left out.
+    #[tactic(auto, using(crate::specs::StepLaws::moves))]
+    fn push(self, made: &mut [u64; SUMS], from: &[u64], v: usize)
+        requires { (length from.now ≡ sums) × (v < values) × ((b : ℕ) → b < sums → get_or made.old b 0 + when (lists self.domain v) (moved from.now 0 (self.rise * v) (self.fall * v) b) < 2 ^ 64) }
+        ensures { (b : ℕ) → b < sums → get_or made.new b 0 ≡ get_or made.old b 0 + when (lists self.domain v) (moved from.now 0 (self.rise * v) (self.fall * v) b) }
+    {
+        if !lists(self.domain, v) {
+            return;
+        }
+        let up = usize::from(self.rise) * v;
+        let down = usize::from(self.fall) * v;
+        if HIGHEST < up + down {
+            return;
+        }
+        for b in up..SUMS - down {
+            made[b] += from[b + down - up];
+        }
+    }
 }
 
-// Adds what the value v brings, if d lists it: the layer `from`, moved by its weight. What would be moved past the last sum is left out.
-#[tactic(auto, using(crate::specs::StepLaws::moves))]
-fn push(made: &mut [u64; SUMS], from: &[u64], rise: u8, fall: u8, d: u32, v: usize)
-    requires { (length from.now ≡ sums) × (v < values) × ((b : ℕ) → b < sums → get_or made.old b 0 + when (lists d v) (moved from.now 0 (rise * v) (fall * v) b) < 2 ^ 64) }
-    ensures { (b : ℕ) → b < sums → get_or made.new b 0 ≡ get_or made.old b 0 + when (lists d v) (moved from.now 0 (rise * v) (fall * v) b) }
-{
-    if !lists(d, v) {
-        return;
-    }
-    let up = usize::from(rise) * v;
-    let down = usize::from(fall) * v;
-    if HIGHEST < up + down {
-        return;
-    }
-    for b in up..SUMS - down {
-        made[b] += from[b + down - up];
-    }
-}
-
-// Whether d lists the value v.
+// Whether the domain d lists the value v.
 pub fn lists(d: u32, v: usize) -> bool
     requires { v < values }
     ensures { result ≡ lists d v }

@@ -17,11 +17,8 @@ pub fn gather_row(domains: &[u32], names: &[usize], part: &mut [u32])
     requires { (length part.old ≡ length names.now) × Inside (length domains.now) names.now }
     ensures { part.new ≡ gather domains.now names.now }
 {
-    let mut p = 0;
-    while p < names.len() {
-        let cell = names[p];
-        part[p] = domains[cell];
-        p += 1;
+    for (p, cell) in names.iter().enumerate() {
+        part[p] = domains[*cell];
     }
 }
 
@@ -30,76 +27,49 @@ fn scatter_row(domains: &mut [u32], names: &[usize], part: &[u32])
     requires { (length part.now ≡ length names.now) × Inside (length domains.old) names.now }
     ensures { domains.new ≡ scatter names.now part.now domains.old }
 {
-    let mut p = 0;
-    while p < names.len() {
-        let cell = names[p];
-        domains[cell] = part[p];
-        p += 1;
+    for (cell, domain) in names.iter().zip(part) {
+        domains[*cell] = *domain;
     }
 }
 
-// A visit to a row of these names and weights; part is room of the row's length. How many values it struck.
-fn visit_parts(
-    domains: &mut [u32],
-    names: &[usize],
-    weights: &[u8],
-    low: usize,
-    high: usize,
-    part: &mut [u32],
-) -> usize
-    requires { Fits (length domains.old) (row_with names.now weights.now low high) × SoundRow weights.now part.old low high }
-    ensures domains_after { domains.new ≡ visit (row_with names.now weights.now low high) domains.old }
-    ensures domains_after_2 { result + size domains.new ≡ size domains.old }
-{
-    gather_row(domains, names, part);
-    let n = reach::inner::strike(weights, part, low, high);
-    scatter_row(domains, names, part);
-    n
-}
-
 // A visit to a row. How many values it struck.
-fn visit_row(domains: &mut [u32], row: Row) -> usize
-    requires { SoundLine (length domains.old) row }
-    ensures domains_after { domains.new ≡ visit (row_of row) domains.old }
-    ensures domains_after_2 { result + size domains.new ≡ size domains.old }
+fn visit_row(domains: &mut [u32], row: &Row) -> usize
+    requires { SoundLine (length domains.old) row.now }
+    ensures domains_after { domains.new ≡ visit (row_of row.now) domains.old }
+    ensures size_kept { result + size domains.new ≡ size domains.old }
 {
-    let len = row.len;
-    let names = row.names;
-    let weights = row.weights;
-    let mut part = [0u32; ROW_CELLS];
-    visit_parts(
-        domains,
-        &names[..len],
-        &weights[..len],
-        row.low,
-        row.high,
-        &mut part[..len],
-    )
+    let names = &row.names[..row.len];
+    let weights = &row.weights[..row.len];
+    let mut room = [0; ROW_CELLS];
+    let part = &mut room[..row.len];
+    gather_row(domains, names, part);
+    let struck = reach::inner::strike(weights, part, row.low, row.high);
+    scatter_row(domains, names, part);
+    struck
 }
 
 // A pass over the board's rows, with the tally of what came before it.
-fn pass_rows(domains: &mut [u32], board: Board, before: Tally) -> Tally
-    requires { SoundBoard board × (length domains.old ≡ board.cells) × (before.struck + size domains.old ≤ board_values) × (before.passes ≤ board_values) }
-    ensures domains_after { domains.new ≡ pass (rows_of board) domains.old }
-    ensures passes_value { (result.passes ≡ before.passes + 1) × (before.struck ≤ result.struck) × (result.struck + size domains.new ≡ before.struck + size domains.old) }
+fn pass_rows(domains: &mut [u32], board: &Board, before: Tally) -> Tally
+    requires { SoundBoard board.now × (length domains.old ≡ board.now.cells) × (before.struck + size domains.old ≤ board_values) × (before.passes ≤ board_values) }
+    ensures domains_after { domains.new ≡ pass (rows_of board.now) domains.old }
+    ensures passes_counted { result.passes ≡ before.passes + 1 }
+    ensures struck_grows { before.struck ≤ result.struck }
+    ensures size_kept { result.struck + size domains.new ≡ before.struck + size domains.old }
 {
-    let rows = board.rows;
     let mut tally = before;
-    let mut i = 0;
-    while i < rows {
-        let row = board.lines[i];
-        let n = visit_row(domains, row);
-        tally = tally.after_row(n);
-        i += 1;
+    for i in 0..board.rows {
+        let row = &board.lines[i];
+        let struck = visit_row(domains, row);
+        tally = tally.after_row(struck);
     }
     tally.after_pass()
 }
 
 // Passes until one strikes nothing.
-fn settle_rows(domains: &mut [u32], board: Board) -> Tally
-    requires { SoundBoard board × (length domains.old ≡ board.cells) }
-    ensures domains_after { domains.new ≡ (settle (rows_of board) domains.old).left }
-    ensures value { result ≡ tally_of (settle (rows_of board) domains.old) }
+fn settle_rows(domains: &mut [u32], board: &Board) -> Tally
+    requires { SoundBoard board.now × (length domains.old ≡ board.now.cells) }
+    ensures domains_after { domains.new ≡ (settle (rows_of board.now) domains.old).left }
+    ensures value { result ≡ tally_of (settle (rows_of board.now) domains.old) }
 {
     let mut tally = Tally {
         passes: 0,
@@ -120,6 +90,5 @@ pub fn settle(board: Board, room: &mut [u32]) -> Tally
     ensures room_after { room.new ≡ onto (settle_room board room.old).left room.old }
     ensures value { result ≡ tally_of (settle_room board room.old) }
 {
-    let cells = board.cells;
-    settle_rows(&mut room[..cells], board)
+    settle_rows(&mut room[..board.cells], &board)
 }

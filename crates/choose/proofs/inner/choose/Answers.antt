@@ -1,11 +1,8 @@
--- `inner::choose` meets its contract: the choice, and then both tables are cleared, which past 5,632 entries were kept. Assumes nothing.
+-- `inner::choose` meets its contract: both tables are cleared, which past 5,632 entries were kept. Assumes nothing.
 use Rattle.choose.specs.AdviceLaws.{cleared_kept}
 use Rattle.choose.proofs.inner.choose.Goals as goal
 
-pub returns : goal.returns
-returns c =
-    let chosen = c.chosen-advice.ensures in
-    record {
-      result_value = chosen.result_value;
-      forward_after = (cleared_kept _ _ _ chosen.same_rest.0 c.clear.ensures, cleared_kept _ _ _ chosen.same_rest.1 c.clear-2.ensures);
-    }
+pub returns-clause-forward_after : goal.returns-clause-forward_after
+returns-clause-forward_after c =
+    let kept = c.chosen-advice.ensures.kept in
+    (cleared_kept _ _ _ kept.forward c.clear.ensures.cleared.0, cleared_kept _ _ _ kept.backward c.clear.ensures.cleared.1)

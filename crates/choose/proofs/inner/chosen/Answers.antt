@@ -1,36 +1,33 @@
 -- `inner::chosen` meets its contract: a board with an empty domain is dead; else going through the candidates comes to the choice. Assumes nothing.
-use mathlib.Core.Path.{refl, sym, ap, ◌∙◌}
+use mathlib.Core.Path.{sym, ap, ◌∙◌}
 use native.Mathlib.Omega.{arith}
-use Rattle.settling.specs.Settling.{Accepted}
+use Rattle.settling.specs.Settling.{Accepted, Domains}
 use Rattle.settling.specs.Boards.{rows_of}
 use Rattle.settling.proofs.BoardLaws.{sound_accepted}
 use Rattle.choosing.specs.Going.{outcome}
 use Rattle.choosing.proofs.ChoiceLaws.{dies, by_going, leader_fits}
 use Rattle.beat.specs.Beat.{ties_of, candidate_of, leader_of}
+use Rattle.choose.specs.AdviceLaws.{each_leader}
 use Rattle.choose.specs.StepLaws.{rows_short}
 use Rattle.choose.proofs.inner.chosen.Goals as goal
-use Rattle.choose.proofs.inner.chosen.Goals.{After-shared_slice_known-1}
+use Rattle.choose.proofs.inner.chosen.Goals.{Start}
 
-accepted : (c : After-shared_slice_known-1) → Accepted (rows_of c.args.board) c.args.domains.now
-accepted c = sound_accepted c.args.board c.requires.sound c.args.domains.now c.requires.cells (λ i. omega (arith, c.shared_slice_known-1.given i))
+accepted : (c : Start) → Domains c.args.domains.now → Accepted (rows_of c.args.board) c.args.domains.now
+accepted c fit = sound_accepted c.args.board c.requires.sound c.args.domains.now c.requires.cells fit
 
-pub returns-then-some_empty : goal.returns-then-some_empty
-returns-then-some_empty c =
-    record {
-      result_value = dies _ _ _ (sym c.some_empty.ensures ∙ c.if-some_empty.true);
-      same_rest = (refl, refl);
-    }
+pub returns-then-some_empty-clause-result_value : goal.returns-then-some_empty-clause-result_value
+returns-then-some_empty-clause-result_value c = dies _ _ _ (sym c.some_empty.ensures ∙ c.if-some_empty.true)
 
 pub advice_of-requires : goal.advice_of-requires
 advice_of-requires c =
-    let o = ties_of c.args.ties in
-    λ x e. leader_fits o (rows_of c.args.board) c.args.domains.now (accepted (goal.at.advice_of-requires c).After-shared_slice_known-1) c.requires.consistent (rows_short c.args.board c.requires.sound) _ c.with_rows.ensures.result_value (candidate_of x) (ap leader_of e)
+    let a = c.args in
+    each_leader _ _ (λ x e.
+    leader_fits (ties_of a.ties) (rows_of a.board) a.domains.now (accepted (goal.at.advice_of-requires c).Start (λ i. omega (arith, c.type_inv.domains i))) c.requires.consistent (rows_short a.board c.requires.sound) _ c.with_rows.ensures.result_value (candidate_of x) (ap leader_of e))
 
-pub returns : goal.returns
-returns c =
-    let with = c.with_rows.ensures in
+pub returns-clause-result_value : goal.returns-clause-result_value
+returns-clause-result_value c =
+    let a = c.args in
     let none = sym c.some_empty.ensures ∙ c.if-some_empty.false in
-    record {
-      result_value = c.advice_of.ensures ∙ ap outcome with.result_value ∙ sym (by_going (ties_of c.args.ties) (rows_of c.args.board) c.args.domains.now (accepted (goal.at.returns c).After-shared_slice_known-1) c.requires.consistent none);
-      same_rest = with.same_rest;
-    }
+    c.advice_of.ensures
+    ∙ ap outcome c.with_rows.ensures.result_value
+    ∙ sym (by_going (ties_of a.ties) (rows_of a.board) a.domains.now (accepted (goal.at.returns-clause-result_value c).Start (λ i. omega (arith, c.type_inv.domains i))) c.requires.consistent none)

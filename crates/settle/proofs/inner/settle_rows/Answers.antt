@@ -59,13 +59,13 @@ returns-then-tally-before c =
     let l = c.loop-tally in
     let p = c.pass_rows-tally in
     record {
-      domains_after = (ended _ _ l.domains _ l.tally p.result l.invariant.1 l.invariant.2 l.invariant.3 p.ensures.domains_after p.ensures.passes_value.0 p.ensures.passes_value.2 (omega arith)).0;
-      value = (ended _ _ l.domains _ l.tally p.result l.invariant.1 l.invariant.2 l.invariant.3 p.ensures.domains_after p.ensures.passes_value.0 p.ensures.passes_value.2 (omega arith)).1;
+      domains_after = (ended _ _ l.domains _ l.tally p.result l.invariant.1 l.invariant.2 l.invariant.3 p.ensures.domains_after p.ensures.passes_counted p.ensures.size_kept (omega arith)).0;
+      value = (ended _ _ l.domains _ l.tally p.result l.invariant.1 l.invariant.2 l.invariant.3 p.ensures.domains_after p.ensures.passes_counted p.ensures.size_kept (omega arith)).1;
     }
 
 pub loop-tally-preserved : goal.loop-tally-preserved
 loop-tally-preserved c =
     let l = c.loop-tally in
     let p = c.pass_rows-tally in
-    let next = onward _ _ l.domains _ l.tally p.result l.invariant.1 l.invariant.2 l.invariant.3 p.ensures.domains_after p.ensures.passes_value.0 p.ensures.passes_value.2 (omega arith) in
+    let next = onward _ _ l.domains _ l.tally p.result l.invariant.1 l.invariant.2 l.invariant.3 p.ensures.domains_after p.ensures.passes_counted p.ensures.size_kept (omega arith) in
     (kept (goal.at.loop-tally-preserved c).After-pass_rows-tally, next.0, next.1, omega arith, omega arith)
