@@ -1,4 +1,4 @@
--- What the program prints of a board file, in the lines of document 01. Definitions only.
+-- What the program prints of a board file, in the lines of the scope document. Definitions only.
 use Rattle.std.specs.Prelude.{List, [], ◌++◌, ℕ, zero, suc, map, length, take, replicate, ltb, leb, cond, codes, slice_index}
 use Rattle.told.specs.Told.{Told, refused, says}
 use Rattle.sizes.specs.Sizes.{board_cells, board_rows, table_size}

@@ -33,7 +33,7 @@ abbrev pub leave : {A : Type 0} → ℕ → A → A → A
 leave zero held new = new
 leave (suc n) held new = held
 
--- document 01's number for every refusal
+-- the number for every refusal
 abbrev pub number_of : Refusal → ℕ
 number_of Length = 1
 number_of Limits = 2
@@ -51,7 +51,7 @@ number_of Room = 13
 number_of WriterRoom = 14
 number_of Stack = 15
 
--- what a call's answer says: document 01's number for no, or the value
+-- what a call's answer says: the number for no, or the value
 abbrev pub told : {A : Type 0} → Result A Refusal → Told A
 told (Ok a) = says a
 told (Err e) = refused (number_of e)
