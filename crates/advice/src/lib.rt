@@ -3,55 +3,56 @@
 
 pub mod inner;
 
-ghost use Rattle.std.specs.Prelude.{◌≡◌, ◌≤◌, length, take};
+ghost use Rattle.std.specs.Prelude.{◌≡◌, ◌≤◌, length};
 ghost use Rattle.sizes.specs.Sizes.{board_cells, table_size};
+ghost use Rattle.listing.specs.Listing.{onto};
 ghost use Rattle.board.specs.Sound.{SoundBoard};
-ghost use Rattle.settling.specs.Boards.{rows_of};
-ghost use Rattle.choosing.specs.Choosing.{to_lowest, choose as choice};
-ghost use Rattle.choose.specs.Advice.{told as adviceTold, cleared};
-ghost use Rattle.advice.specs.Advising.{told, settled_of, advise_says, rooms, advise_leaves};
+ghost use Rattle.advice.specs.Advising.{Cleared, said_by, told, settled_of, said_of, advise_says, rooms, advise_leaves};
 
 use beat::Ties;
 use board::Board;
-use choose::Advice;
-use choose::inner::choose;
-use inner::{rooms_refuse, settled};
-use reader::{Outcome, read, refusal_of};
+use choose::{Advice, Tables};
+use inner::{look, rooms_refuse, store};
+use reader::{Reading, read};
 use settle::Tally;
+use told::Refusal;
 
-// What settling a board and choosing a move answer, or the number for no.
+// What settling a board and choosing a move on it come to.
 #[derive(Clone, Copy)]
-pub enum Answer {
-    Advised { tally: Tally, advice: Advice },
-    Refused(u8),
+pub struct Advised {
+    pub tally: Tally,
+    pub advice: Advice,
 }
 
 // Settles the board of a file and advises a move on it. The room then has the settled domains at its front, one for each cell.
-pub fn advise(file: &[u8], room: &mut [u32], forward: &mut [u64], backward: &mut [u64]) -> Answer
+#[tactic(auto, using(crate::specs::StepLaws::said_sound))]
+pub fn advise(
+    file: &[u8],
+    room: &mut [u32],
+    forward: &mut [u64],
+    backward: &mut [u64],
+) -> Result<Advised, Refusal>
     ensures result_value { told result ≡ advise_says file.now room.old forward.old backward.old }
-    ensures backward_after { rooms room.new forward.new backward.new ≡ advise_leaves file.now room.old forward.old backward.old }
+    ensures rooms_after { rooms room.new forward.new backward.new ≡ advise_leaves file.now room.old forward.old backward.old }
 {
-    let refusal = rooms_refuse(forward.len(), backward.len(), room.len());
-    if refusal != 0 {
-        return Answer::Refused(refusal);
-    }
-    let reading = read(file);
-    let outcome = reading.outcome;
-    let Outcome::Read = outcome else {
-        return Answer::Refused(refusal_of(outcome));
+    rooms_refuse(forward.len(), backward.len(), room.len())?;
+    let Reading { outcome, board } = read(file);
+    let Ok(()) = outcome else {
+        return Err(outcome.unwrap_err());
     };
-    let board = reading.board;
-    let tally = settled(board, room);
-    let advice = chosen(board, room, forward, backward);
-    Answer::Advised { tally, advice }
+    let mut tables = Tables { forward, backward };
+    Ok(advise_board(board, room, &mut tables))
 }
 
-// Chooses a move on a board that is settled in the room; ties go to the lowest value.
-fn chosen(board: Board, room: &[u32], forward: &mut [u64], backward: &mut [u64]) -> Advice
-    requires { SoundBoard board × (board_cells ≤ length room.now) × (take board.cells room.now ≡ (settled_of board).left) × (table_size ≤ length forward.old) × (table_size ≤ length backward.old) }
-    ensures result_value { adviceTold result ≡ choice to_lowest (rows_of board) (settled_of board).left }
-    ensures forward_after { (forward.new ≡ cleared forward.old) × (backward.new ≡ cleared backward.old) }
+// Settles a board in the front of the room and chooses a move on it; ties go to the lowest value.
+fn advise_board(board: Board, room: &mut [u32], tables: &mut Tables<'_>) -> Advised
+    requires { SoundBoard board × (board_cells ≤ length room.old) }
+    ensures value { said_by result ≡ said_of board }
+    ensures room_after { room.new ≡ onto (settled_of board).left room.old }
+    ensures tables_after { Cleared tables.old tables.new }
 {
     let cells = board.cells;
-    choose(Ties::Lowest, board, &room[..cells], forward, backward)
+    let domains = &mut room[..cells];
+    store(board, domains);
+    look(Ties::Lowest, board, domains, tables)
 }

@@ -83,7 +83,7 @@ fn clear(table: &mut [u64])
     table[..TABLE].fill(0);
 }
 
-// What is advised: an enum of these three cases is the rule. The share is for display: it decides nothing.
+// What is advised. The share is for display: it decides nothing.
 #[derive(Clone, Copy, Debug, PartialEq)]
 pub enum Advice {
     Dead,

@@ -10,7 +10,7 @@ ghost use Rattle.layers.specs.Steps.{Fillable, moved, step};
 
 use sizes::{HIGHEST, SUMS, VALUES};
 
-// Fills both tables of a row.
+// Fills both tables of a row. The parameters stand one by one, as the public calls hand them on from the C interface.
 pub fn fill(
     weights: &[u8],
     domains: &[u32],

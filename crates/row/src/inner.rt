@@ -1,4 +1,5 @@
 // Calls for the floors above, which have made sure of what each requires: fill a row's tables once, then count and strike from them.
+// The parameters of the calls stand one by one, as the public calls hand them on from the C interface.
 ghost use Rattle.std.specs.Prelude.{◌≡◌, true, ◌+◌, ◌*◌, ◌<◌, ◌≤◌, length};
 ghost use Rattle.told.specs.Told.{when};
 ghost use Rattle.sizes.specs.Sizes.{values, sums};

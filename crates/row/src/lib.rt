@@ -1,4 +1,5 @@
 // Counting in one row: the total, the count of a place and a value, and striking. Any input is taken; what is not a row is refused.
+// The parameters stand one by one, and not in a struct, as the C interface has them.
 #![tactic(auto)]
 
 pub mod inner;

@@ -1,8 +1,9 @@
 -- What the board call `search` refuses, what it says, and what it leaves in what it is lent. Definitions only.
 -- file are the bytes of a board file; choices is the number given; room, stack, forward and backward are the domain room, the stack room and the two
 -- tables at entry.
-use Rattle.std.specs.Prelude.{List, ℕ, ◌-◌, ltb, length, replicate}
-use Rattle.told.specs.Told.{Told, refused, says, when, first, answer, leave}
+use Rattle.std.specs.Prelude.{List, ℕ, ◌-◌, ltb, length, replicate, Result}
+use Rattle.told.specs.declared.Refusal.{Refusal}
+use Rattle.told.specs.Told.{Told, told_by, when, first, answer, leave}
 use Rattle.sizes.specs.Sizes.{stack_size}
 use Rattle.listing.specs.Listing.{onto}
 use Rattle.board.specs.declared.Board.{Board}
@@ -12,8 +13,8 @@ use Rattle.settling.specs.Boards.{rows_of}
 use Rattle.choose.specs.Advice.{cleared}
 use Rattle.advice.specs.Advising.{domains_of, settled_of, rooms_refuse}
 use Rattle.searching.specs.Searching.{Found, searched, needed, Ending, solved, none, spent, ends}
-use Rattle.search.specs.declared.Answer.{Answer}
-use Rattle.search.specs.declared.Answer.TheVariants.{Solved, None, Spent, Refused}
+use Rattle.search.specs.declared.Ending.{Ending as Verdict}
+use Rattle.search.specs.declared.Ending.TheVariants as verdict
 
 -- ---- what is said
 
@@ -23,12 +24,14 @@ pub data Word : Type 0 where
   there_is_none : Word
   it_is_spent : Word
 
--- document 01's number, or R-1's word, for every case of the answer
-abbrev pub told : Answer → Told Word
-told Solved = says it_is_solved
-told None = says there_is_none
-told Spent = says it_is_spent
-told (Refused number) = refused number
+-- the word for each case of the code's ending; and document 01's number for no, or that word
+abbrev pub word_by : Verdict → Word
+word_by verdict.Solved = it_is_solved
+word_by verdict.None = there_is_none
+word_by verdict.Spent = it_is_spent
+
+abbrev pub told : Result Verdict Refusal → Told Word
+told result = told_by word_by result
 
 -- the word for each ending, and the domains that then stand in the room; s are the board's settled domains before any choice
 abbrev pub word_of : Ending → Word

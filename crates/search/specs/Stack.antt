@@ -1,7 +1,7 @@
 -- The lent stack room level by level, and what a step and a search of it promise. Definitions only.
 -- n is the number of cells, h the number of levels in use, d the domains that are looked at.
 use Rattle.std.specs.Prelude.{◌≡◌, List, [], ◌∷◌, ◌++◌, ℕ, zero, suc, ◌+◌, ◌-◌, ◌*◌, ◌^◌, ◌≤◌, ◌<◌, length, take, drop, replicate}
-use Rattle.sizes.specs.Sizes.{board_cells, table_size, stack_size}
+use Rattle.sizes.specs.Sizes.{board_cells, stack_size}
 use Rattle.listing.specs.Listing.{onto}
 use Rattle.board.specs.declared.Board.{Board}
 use Rattle.board.specs.Sound.{SoundBoard}
@@ -12,11 +12,11 @@ use Rattle.searching.specs.Searching.{Found, Ending, solved, none, spent, ends, 
 use Rattle.searching.specs.Promised.{Playable}
 use Rattle.searching.specs.Levels.{search_all, open_cells}
 use Rattle.search.specs.declared.purse.Purse.{Purse}
-use Rattle.search.specs.declared.inner.Verdict.{Verdict}
-use Rattle.search.specs.declared.inner.Verdict.TheVariants as verdict
-use Rattle.search.specs.declared.inner.Step.{Step}
-use Rattle.search.specs.declared.inner.Step.TheVariants.{Again, Over}
-use Rattle.search.specs.Finishing.{Word, it_is_solved, there_is_none, it_is_spent, word_of, domains_after, end_of, needed_on, emptied}
+use Rattle.search.specs.declared.Ending.{Ending as Verdict}
+use Rattle.search.specs.declared.Ending.TheVariants as verdict
+use Rattle.std.specs.declared.ops.ControlFlow.{ControlFlow}
+use Rattle.std.specs.declared.ops.ControlFlow.TheVariants.{Continue, Break}
+use Rattle.search.specs.Finishing.{word_by, word_of, domains_after, end_of, needed_on, emptied}
 
 -- ---- levels
 
@@ -43,16 +43,14 @@ Roomy rs n (d ∷ ds) = Playable rs d × (length d ≡ n) × (length ds + open_c
 abbrev pub trying : ℕ → List ℕ → List ℕ → List (List ℕ)
 trying h d stack = d ∷ levels (length d) h stack
 
-pub record UnderWay (board : Board) (h : ℕ) (purse : Purse) (d stack forward backward : List ℕ) : Type 0 where
+pub record UnderWay (board : Board) (h : ℕ) (purse : Purse) (d stack : List ℕ) : Type 0 where
   pub sound : SoundBoard board
   pub cells : length d ≡ board.cells
   pub roomy : Roomy (rows_of board) (length d) (trying h d stack)
   pub stack_room : stack_size ≤ length stack
-  pub forward_room : table_size ≤ length forward
-  pub backward_room : table_size ≤ length backward
   pub purse_fits : purse.left + purse.followed < 2 ^ 64
 
--- the ending that a verdict stands for; after Solved d is the filling
+-- the ending that the code's stands for; after Solved d is the filling
 abbrev pub shown : Verdict → List ℕ → Ending
 shown verdict.Solved d = solved d
 shown verdict.None d = none
@@ -76,17 +74,11 @@ pub record Ended (purse : Purse) (before : Found) (v : Verdict) (purse' : Purse)
   pub remains : purse'.left ≡ choices_left purse.left before
   pub purse_same : purse'.left + purse'.followed ≡ purse.left + purse.followed
 
-abbrev pub Stepped : List Row → ℕ → Purse → List ℕ → List ℕ → Step → List ℕ → List ℕ → Type 0
-Stepped rs h purse d stack (Again h' purse') d' stack' = Onward rs h purse d stack h' purse' d' stack'
-Stepped rs h purse d stack (Over v purse') d' stack' = Ended purse (search_all rs (trying h d stack)) v purse' d'
+abbrev pub Stepped : List Row → ℕ → Purse → List ℕ → List ℕ → ControlFlow Verdict ℕ → Purse → List ℕ → List ℕ → Type 0
+Stepped rs h purse d stack (Continue h') purse' d' stack' = Onward rs h purse d stack h' purse' d' stack'
+Stepped rs h purse d stack (Break v) purse' d' stack' = Ended purse (search_all rs (trying h d stack)) v purse' d'
 
 -- ---- the whole search
-
--- the word for a verdict
-abbrev pub word_by : Verdict → Word
-word_by verdict.Solved = it_is_solved
-word_by verdict.None = there_is_none
-word_by verdict.Spent = it_is_spent
 
 -- on slices of just the sizes that it takes
 pub record Ran (board : Board) (choices : ℕ) (v : Verdict) (purse : Purse) (d stack : List ℕ) : Type 0 where

@@ -1,16 +1,18 @@
 -- The levels of the stack room, and the ways that a step can go. Assumes nothing.
-use Rattle.std.specs.Prelude.{◌≡◌, Bool, true, false, not, ◌≢◌, eqb, Float, get_or, take, drop, replicate}
+use Rattle.std.specs.Prelude.{◌≡◌, Bool, true, false, ◌≢◌, eqb, Float, get_or, take, drop, replicate}
 use Rattle.std.proofs.Math.Path.{refl, sym, ap, ap₂, subst}
-use Rattle.std.proofs.Common.{◌∙◌, le_refl, add-one, eqb-true, length-drop, take-append-drop, length-take-le, drop_at, take_at, ext_get_or}
+use Rattle.std.proofs.Common.{◌∙◌, le_refl, add-one, eqb-true, eq-eqb, length-drop, take-append-drop, length-take-le, drop_at, take_at}
 use mathlib.Core.List.{List, [], ◌∷◌, ◌++◌}
-use Prim.Native.Nat.{ℕ, zero, suc, ◌+◌, ◌-◌, ◌*◌, ◌^◌, ◌≤◌, ◌<◌}
+use Prim.Native.Nat.{ℕ, zero, suc, ◌+◌, ◌-◌, ◌*◌, ◌%◌, ◌^◌, ◌≤◌, ◌<◌}
 use native.Mathlib.Omega.{arith}
 use Rattle.std.proofs.lemmas.Bool.{eqb-false, not-true, not-false}
 use Rattle.std.proofs.Math.ListN.{length}
-use Rattle.std.proofs.lemmas.List.{length-map, length-replicate, take-append-le, drop-append-le}
+use Rattle.std.proofs.lemmas.List.{length-replicate, take-append-le, drop-append-le}
+use Rattle.std.proofs.lemmas.Nat.Bits.{bit_at-trailing_zeros}
+use Rattle.std.specs.Int.{trailing_zeros, w32}
 use Rattle.sizes.specs.Sizes.{values, board_cells, table_size, stack_size}
-use Rattle.listing.specs.Written.{Written}
-use Rattle.listing.specs.Places.{map_at, onto_late}
+use Rattle.listing.specs.Places.{onto_late}
+use Rattle.counting.proofs.StepLaws.{value_bit}
 use Rattle.board.specs.declared.Board.{Board}
 use Rattle.board.specs.Sound.{SoundBoard}
 use Rattle.settling.specs.Settling.{Row, Domains, settle}
@@ -18,16 +20,20 @@ use Rattle.settling.proofs.Settles.{settle_length}
 use Rattle.settling.specs.Boards.{rows_of}
 use Rattle.settling.proofs.BoardLaws.{sound_accepted, rows_have_cells}
 use Rattle.choose.specs.Advice.{cleared}
-use Rattle.choose.specs.Steps.{SameRest}
+use Rattle.choose.specs.declared.Tables.{Tables}
+use Rattle.choose.specs.AdviceLaws.{cleared_kept}
+use Rattle.choose.specs.Steps.{SameRest, Kept}
+use Rattle.advice.specs.Advising.{Cleared}
 use Rattle.choosing.specs.Choosing.{Candidate, dead, settled, advise, to_lowest, choose}
 use Rattle.searching.specs.Searching.{lowest, lowests, cut_to, removed, Found, nothing, one, more, searched, ends, choices_left}
+use Rattle.searching.specs.Lowest.{lowest_first, lowest_none}
 use Rattle.searching.specs.Promised.{Playable}
 use Rattle.searching.specs.Levels.{search_all, open_cells}
 use Rattle.searching.proofs.Looks.{Branches, open_most, look_of, advice_fits, branch_branches}
 use Rattle.searching.proofs.Searches.{ends_enough, ends_more, left_more, ends_broke, left_broke, all_none, all_one, all_empty, all_filled, all_branch}
 use Rattle.search.specs.declared.purse.Purse.{Purse}
-use Rattle.search.specs.declared.inner.Verdict.{Verdict}
-use Rattle.search.specs.declared.inner.Verdict.TheVariants as verdict
+use Rattle.search.specs.declared.Ending.{Ending as Verdict}
+use Rattle.search.specs.declared.Ending.TheVariants as verdict
 use Rattle.search.specs.Purse.{one_left, taken}
 use Rattle.search.specs.Stack.{level, saved, levels, Roomy, trying, UnderWay, Same, Onward, Ended}
 
@@ -35,12 +41,17 @@ use Rattle.search.specs.Stack.{level, saved, levels, Roomy, trying, UnderWay, Sa
 pub sound_playable : (board : Board) → SoundBoard board → (d : List ℕ) → length d ≡ board.cells → Domains d → Playable (rows_of board) d
 sound_playable board sound d n h = record { accepted = sound_accepted board sound d n h; some = rows_have_cells board sound }
 
--- ---- domains cut one after another
+-- ---- domains cut to their lowest values
 
-pub cut_end : (d new : List ℕ) (i : ℕ) → i ≤ length new → length new ≤ i → length new ≡ length d → Written (λ k. 2 ^ lowest (get_or d k 0)) d new 0 i → new ≡ lowests d
-cut_end d new i a b n w =
-    ext_get_or 0 new (lowests d) (n ∙ sym (length-map d (λ e. 2 ^ lowest e)))
-    (λ k l. w.inside k (omega arith) (omega arith) ∙ sym (map_at (λ e. 2 ^ lowest e) 0 0 d k (omega arith)))
+-- a domain's lowest value is the place of its lowest bit; the empty domain's is 0
+pub lowest_bit : (e : ℕ) → e ≢ 0 → e < 2 ^ values → 1 * 2 ^ trailing_zeros w32 e % 2 ^ values ≡ 2 ^ lowest e
+lowest_bit e some small =
+    let t = bit_at-trailing_zeros w32 e (omega arith) small in
+    let same : lowest e ≡ trailing_zeros w32 e = lowest_first e (trailing_zeros w32 e) t.0 (eq-eqb _ 1 t.1) (λ u l q. absurd (omega (arith, eqb-true _ 1 q, t.2 u l))) in
+    rw same (value_bit (trailing_zeros w32 e) t.0)
+
+pub no_lowest_bit : (e : ℕ) → e ≡ 0 → 1 ≡ 2 ^ lowest e
+no_lowest_bit e z = rw (z, lowest_none 0 (λ u l q. absurd (omega (arith, eqb-true _ 1 q))))
 
 -- ---- the stack
 
@@ -77,7 +88,7 @@ levels_saved n h st x e l m =
 
 -- ---- a search under way
 
-module _ {board : Board} {h : ℕ} {purse : Purse} {d stack forward backward : List ℕ} (way : UnderWay board h purse d stack forward backward) where
+module _ {board : Board} {h : ℕ} {purse : Purse} {d stack : List ℕ} (way : UnderWay board h purse d stack) where
   abbrev rows : List Row
   rows = rows_of board
 
@@ -198,12 +209,12 @@ module _ {board : Board} {h : ℕ} {purse : Purse} {d stack forward backward : L
 
 -- ---- back to the last level saved
 
-pub may_restore : {board : Board} {h : ℕ} {purse : Purse} {d stack forward backward : List ℕ} → UnderWay board h purse d stack forward backward
+pub may_restore : {board : Board} {h : ℕ} {purse : Purse} {d stack : List ℕ} → UnderWay board h purse d stack
     → (s : List ℕ) → s ≡ (settle (rows_of board) d).left → h ≢ 0 → (length s ≤ board_cells) × (stack_size ≤ length stack) × (h - 1 < board_cells)
 may_restore way s q z = (omega (arith, ap length q, left_cells way, small way), way.stack_room, omega (arith, levels_most way))
 
-module _ {board : Board} {purse : Purse} {d stack forward backward : List ℕ} where
-  pub step_back : (h : ℕ) → UnderWay board h purse d stack forward backward → (purse' : Purse) (d' : List ℕ) → purse' ≡ purse
+module _ {board : Board} {purse : Purse} {d stack : List ℕ} where
+  pub step_back : (h : ℕ) → UnderWay board h purse d stack → (purse' : Purse) (d' : List ℕ) → purse' ≡ purse
       → dead ≡ choose to_lowest (rows_of board) (settle (rows_of board) d).left → h ≢ 0 → d' ≡ level (length d) (h - 1) stack
       → Onward (rows_of board) h purse d stack (h - 1) purse' d' stack
   unfolding levels Roomy
@@ -244,22 +255,41 @@ pub ended_trans : (held purse purse' : Purse) (now before : Found) (v : Verdict)
 ended_trans held purse purse' now before v d' same sum e =
     record { end = e.end ∙ same.same_end; remains = e.remains ∙ same.same_left; purse_same = e.purse_same ∙ sum }
 
--- ---- tables
+-- ---- tables, cleared by one step after others that kept them past what they need
 
-pub cleared_rest : (table new : List ℕ) → table_size ≤ length table → new ≡ cleared table → SameRest table new
+rest_after : (t new : List ℕ) → table_size ≤ length t → new ≡ cleared t → SameRest t new
 unfolding cleared
-cleared_rest table new room e =
+rest_after t new room e =
     let n = length-replicate {A = ℕ} table_size 0 in
-    ap (drop table_size) e ∙ onto_late (replicate table_size 0) table 0 table_size (omega arith) (omega arith)
+    ap (drop table_size) e ∙ onto_late (replicate table_size 0) t 0 table_size (omega arith) (omega arith)
+
+pub kept_after : (old now new : Tables) → Kept old now → Cleared now new → Kept old new
+kept_after old now new k c =
+    record {
+      rooms = (c.rooms_same.0 ∙ k.rooms.0, c.rooms_same.1 ∙ k.rooms.1);
+      forward = rest_after _ _ now.rooms.0 c.forward_is ∙ k.forward;
+      backward = rest_after _ _ now.rooms.1 c.backward_is ∙ k.backward;
+    }
+
+pub cleared_after : (old now new : Tables) → Kept old now → Cleared now new → Cleared old new
+cleared_after old now new k c =
+    record {
+      rooms_same = (c.rooms_same.0 ∙ k.rooms.0, c.rooms_same.1 ∙ k.rooms.1);
+      forward_is = cleared_kept _ _ _ k.forward c.forward_is;
+      backward_is = cleared_kept _ _ _ k.backward c.backward_is;
+    }
 
 -- ---- the choosing step
 
-pub none_left : (purse : Purse) (t : Bool) → t ≡ one_left purse → not t ≡ true → purse.left ≡ 0
-none_left purse t e q = eqb-true purse.left 0 (not-false (eqb purse.left 0) (sym e ∙ not-true t q))
+-- what it did where it says that no choice was left, and where it says that one was
+pub none_left : (purse purse' : Purse) (t : Bool) → (purse' ≡ taken purse) × (t ≡ one_left purse) → t ≡ false → (purse.left ≡ 0) × (purse' ≡ purse)
+none_left purse purse' t w q =
+    let z : eqb purse.left 0 ≡ true = not-false (eqb purse.left 0) (sym w.1 ∙ q) in
+    (eqb-true purse.left 0 z, w.0 ∙ rw z)
 
-pub one_left_lem : (purse purse' : Purse) (t : Bool) → t ≡ one_left purse → not t ≡ false → purse' ≡ taken purse
+pub one_left_lem : (purse purse' : Purse) (t : Bool) → (purse' ≡ taken purse) × (t ≡ one_left purse) → t ≡ true
     → (purse.left ≢ 0) × (purse'.left ≡ purse.left - 1) × (purse'.followed ≡ purse.followed + 1)
-one_left_lem purse purse' t e q p =
-    let f : eqb purse.left 0 ≡ false = not-true (eqb purse.left 0) (sym e ∙ not-false t q) in
-    let w : purse' ≡ record { left = purse.left - 1; followed = purse.followed + 1 } = p ∙ rw f in
-    (eqb-false purse.left 0 f, ap (λ (y : Purse). y.left) w, ap (λ (y : Purse). y.followed) w)
+one_left_lem purse purse' t w q =
+    let f : eqb purse.left 0 ≡ false = not-true (eqb purse.left 0) (sym w.1 ∙ q) in
+    let p : purse' ≡ record { left = purse.left - 1; followed = purse.followed + 1 } = w.0 ∙ rw f in
+    (eqb-false purse.left 0 f, ap (λ (y : Purse). y.left) p, ap (λ (y : Purse). y.followed) p)

@@ -5,64 +5,26 @@ ghost use Rattle.board.specs.Sound.{SoundBoard};
 ghost use Rattle.settling.specs.Settling.{settle as settling};
 ghost use Rattle.settling.specs.Boards.{rows_of};
 ghost use Rattle.choosing.specs.Choosing.{to_lowest, choose as choice};
-ghost use Rattle.choose.specs.Advice.{told, cleared};
+ghost use Rattle.choose.specs.Advice.{cleared};
 ghost use Rattle.searching.specs.Searching.{lowest, lowests, cut_to, removed, searched};
-ghost use Rattle.advice.specs.Advising.{settled_of};
+ghost use Rattle.advice.specs.Advising.{Cleared, settled_of};
 ghost use Rattle.search.specs.Finishing.{domains_after};
 ghost use Rattle.search.specs.Stack.{level, saved, UnderWay, shown, Ended as Comes, Stepped, Ran, Finished};
 
-use crate::purse::{Purse, after_choice};
-use advice::inner::{settled, store};
+use crate::Ending;
+use crate::purse::Purse;
+use advice::inner::{look, settled, store};
 use beat::Ties;
 use board::Board;
-use choose::Advice;
-use choose::inner::choose;
-use settle::inner::settle;
-use sizes::{BOARD_CELLS, STACK, VALUES};
-
-// How a search ends; after Solved its domains are the filling.
-#[derive(Clone, Copy)]
-pub enum Verdict {
-    Solved,
-    None,
-    Spent,
-}
-
-// A step goes on with so many levels in use, or the search is over.
-#[derive(Clone, Copy)]
-enum Step {
-    Again(usize, Purse),
-    Over(Verdict, Purse),
-}
+use choose::{Advice, Tables};
+use sizes::{BOARD_CELLS, STACK};
+use std::ops::ControlFlow;
 
 // How a search ended, and what is left of its purse.
 #[derive(Clone, Copy)]
 pub struct Ended {
-    pub verdict: Verdict,
+    pub ending: Ending,
     pub purse: Purse,
-}
-
-// Settles the domains and chooses a move on them; ties go to the lowest value.
-fn look(board: Board, domains: &mut [u32], forward: &mut [u64], backward: &mut [u64]) -> Advice
-    requires { SoundBoard board × (length domains.old ≡ board.cells) × (table_size ≤ length forward.old) × (table_size ≤ length backward.old) }
-    ensures domains_after { domains.new ≡ (settling (rows_of board) domains.old).left }
-    ensures result_value { told result ≡ choice to_lowest (rows_of board) (settling (rows_of board) domains.old).left }
-    ensures forward_after { (forward.new ≡ cleared forward.old) × (backward.new ≡ cleared backward.old) }
-{
-    settle(board, domains);
-    choose(Ties::Lowest, board, domains, forward, backward)
-}
-
-// Copies domains.
-fn copy(to: &mut [u32], from: &[u32])
-    requires { length to.old ≡ length from.now }
-    ensures { to.new ≡ from.now }
-{
-    let mut i = 0;
-    while i < to.len() {
-        to[i] = from[i];
-        i += 1;
-    }
 }
 
 // The domain that lists only this value.
@@ -73,29 +35,24 @@ fn only(value: usize) -> u32
     1u32 << value
 }
 
-// The domain cut to its lowest value.
+// The domain cut to its lowest value, which of an empty one is 0.
+#[tactic(auto, using(crate::specs::StackLaws::lowest_bit, crate::specs::StackLaws::no_lowest_bit))]
 fn cut_to_lowest(domain: u32) -> u32
     ensures { result ≡ 2 ^ lowest domain }
 {
-    let mut v: usize = 0;
-    while v < VALUES {
-        if (domain >> v) % 2 == 1 {
-            return only(v);
-        }
-        v += 1;
+    if domain == 0 {
+        1
+    } else {
+        1 << domain.trailing_zeros()
     }
-    1
 }
 
 // Each domain cut to its lowest value.
 fn cut_all_to_lowest(domains: &mut [u32])
     ensures { domains.new ≡ lowests domains.old }
 {
-    let mut i = 0;
-    while i < domains.len() {
-        let domain = domains[i];
-        domains[i] = cut_to_lowest(domain);
-        i += 1;
+    for domain in domains.iter_mut() {
+        *domain = cut_to_lowest(*domain);
     }
 }
 
@@ -104,7 +61,7 @@ fn follow(domains: &mut [u32], level: &mut [u32], cell: usize, value: usize)
     requires { (length level.old ≡ length domains.old) × (cell < length domains.old) × (value < values) × (2 ^ value ≤ get_or domains.old cell 0) }
     ensures { (domains.new ≡ cut_to domains.old cell value) × (level.new ≡ removed domains.old cell value) }
 {
-    copy(level, domains);
+    level.copy_from_slice(domains);
     let p = only(value);
     level[cell] = level[cell] - p;
     domains[cell] = p;
@@ -127,51 +84,41 @@ fn restore(domains: &mut [u32], stack: &[u32], h: usize)
 {
     let n = domains.len();
     let at = BOARD_CELLS * h;
-    copy(domains, &stack[at..at + n]);
+    domains.copy_from_slice(&stack[at..at + n]);
 }
 
-// One look, and what follows from it: back to the last level saved, on from the advice, or the end.
+// One look, and what follows from it: back to the last level saved, on from the advice, or the end. It goes on with so many levels in use.
 fn take_step(
     board: Board,
     h: usize,
-    purse: Purse,
+    purse: &mut Purse,
     domains: &mut [u32],
     stack: &mut [u32],
-    forward: &mut [u64],
-    backward: &mut [u64],
-) -> Step
-    requires { UnderWay board h purse domains.old stack.old forward.old backward.old }
-    ensures stepped { Stepped (rows_of board) h purse domains.old stack.old result domains.new stack.new }
-    ensures forward_after { (forward.new ≡ cleared forward.old) × (backward.new ≡ cleared backward.old) }
+    tables: &mut Tables<'_>,
+) -> ControlFlow<Ending, usize>
+    requires { UnderWay board h purse.old domains.old stack.old }
+    ensures stepped { Stepped (rows_of board) h purse.old domains.old stack.old result purse.new domains.new stack.new }
+    ensures tables_after { Cleared tables.old tables.new }
 {
-    match look(board, domains, forward, backward) {
+    // Ties go to the lowest value.
+    match look(Ties::Lowest, board, domains, tables).advice {
         Advice::Dead => {
             if h == 0 {
-                return Step::Over(Verdict::None, purse);
+                return ControlFlow::Break(Ending::None);
             }
-            let g = h - 1;
-            restore(domains, stack, g);
-            Step::Again(g, purse)
+            restore(domains, stack, h - 1);
+            ControlFlow::Continue(h - 1)
         }
         Advice::Settled => {
             cut_all_to_lowest(domains);
-            Step::Over(Verdict::Solved, purse)
+            ControlFlow::Break(Ending::Solved)
         }
-        Advice::Advise {
-            cell,
-            value,
-            row: _,
-            count: _,
-            total: _,
-            share: _,
-        } => {
-            let paying = after_choice(purse);
-            if !paying.paid {
-                return Step::Over(Verdict::Spent, purse);
+        Advice::Advise { cell, value, .. } => {
+            if !purse.take_choice() {
+                return ControlFlow::Break(Ending::Spent);
             }
             save(domains, stack, h, cell, value);
-            let rest = paying.purse;
-            Step::Again(h + 1, rest)
+            ControlFlow::Continue(h + 1)
         }
     }
 }
@@ -179,56 +126,33 @@ fn take_step(
 // The search from these domains; the stack is room for 64 levels.
 fn descend(
     board: Board,
-    purse: Purse,
+    purse: &mut Purse,
     domains: &mut [u32],
     stack: &mut [u32],
-    forward: &mut [u64],
-    backward: &mut [u64],
-) -> Ended
-    requires { SoundBoard board × (length domains.old ≡ board.cells) × (stack_size ≤ length stack.old) × (table_size ≤ length forward.old) × (table_size ≤ length backward.old) × (purse.left + purse.followed < 2 ^ 64) }
-    ensures comes { Comes purse (searched (rows_of board) domains.old) result.verdict result.purse domains.new }
-    ensures forward_after { (forward.new ≡ cleared forward.old) × (backward.new ≡ cleared backward.old) }
+    tables: &mut Tables<'_>,
+) -> Ending
+    requires { SoundBoard board × (length domains.old ≡ board.cells) × (stack_size ≤ length stack.old) × (purse.old.left + purse.old.followed < 2 ^ 64) }
+    ensures comes { Comes purse.old (searched (rows_of board) domains.old) result purse.new domains.new }
+    ensures tables_after { Cleared tables.old tables.new }
 {
-    let mut h: usize = 0;
-    let mut held = purse;
+    let mut h = 0;
     loop {
-        match take_step(board, h, held, domains, stack, forward, backward) {
-            Step::Again(levels, rest) => {
-                h = levels;
-                held = rest;
-            }
-            Step::Over(verdict, rest) => {
-                return Ended {
-                    verdict,
-                    purse: rest,
-                };
-            }
+        match take_step(board, h, purse, domains, stack, tables) {
+            ControlFlow::Continue(levels) => h = levels,
+            ControlFlow::Break(ending) => return ending,
         }
-    }
-}
-
-// Zeros in all of the stack room lent.
-fn clear(stack: &mut [u32])
-    ensures { stack.new ≡ replicate (length stack.old) 0 }
-{
-    let mut i = 0;
-    while i < stack.len() {
-        stack[i] = 0;
-        i += 1;
     }
 }
 
 // What stands in the domains in the end: the filling, or else the board's settled domains.
-fn leave(board: Board, verdict: Verdict, domains: &mut [u32])
+#[tactic(auto, using(crate::specs::RoomLaws::left_settled))]
+fn leave(board: Board, ending: Ending, domains: &mut [u32])
     requires { SoundBoard board × (length domains.old ≡ board.cells) }
-    ensures { domains.new ≡ domains_after (shown verdict domains.old) (settled_of board).left }
+    ensures { domains.new ≡ domains_after (shown ending domains.old) (settled_of board).left }
 {
-    match verdict {
-        Verdict::Solved => {}
-        Verdict::None => {
-            settled(board, domains);
-        }
-        Verdict::Spent => {
+    match ending {
+        Ending::Solved => {}
+        Ending::None | Ending::Spent => {
             settled(board, domains);
         }
     }
@@ -240,23 +164,21 @@ fn run(
     choices: u64,
     domains: &mut [u32],
     stack: &mut [u32],
-    forward: &mut [u64],
-    backward: &mut [u64],
+    tables: &mut Tables<'_>,
 ) -> Ended
-    requires { SoundBoard board × (length domains.old ≡ board.cells) × (length stack.old ≡ stack_size) × (table_size ≤ length forward.old) × (table_size ≤ length backward.old) }
-    ensures ran { Ran board choices result.verdict result.purse domains.new stack.new }
-    ensures forward_after { (forward.new ≡ cleared forward.old) × (backward.new ≡ cleared backward.old) }
+    requires { SoundBoard board × (length domains.old ≡ board.cells) × (length stack.old ≡ stack_size) }
+    ensures ran { Ran board choices result.ending result.purse domains.new stack.new }
+    ensures tables_after { Cleared tables.old tables.new }
 {
     store(board, domains);
-    let purse = Purse {
+    let mut purse = Purse {
         left: choices,
         followed: 0,
     };
-    let ended = descend(board, purse, domains, stack, forward, backward);
-    clear(stack);
-    let verdict = ended.verdict;
-    leave(board, verdict, domains);
-    ended
+    let ending = descend(board, &mut purse, domains, stack, tables);
+    stack.fill(0);
+    leave(board, ending, domains);
+    Ended { ending, purse }
 }
 
 // The whole search, in the front of the domain room and of the stack room.
@@ -269,16 +191,16 @@ pub fn finish(
     backward: &mut [u64],
 ) -> Ended
     requires { SoundBoard board × (board_cells ≤ length room.old) × (stack_size ≤ length stack.old) × (table_size ≤ length forward.old) × (table_size ≤ length backward.old) }
-    ensures finished { Finished board choices room.old stack.old result.verdict result.purse room.new stack.new }
-    ensures forward_after { (forward.new ≡ cleared forward.old) × (backward.new ≡ cleared backward.old) }
+    ensures finished { Finished board choices room.old stack.old result.ending result.purse room.new stack.new }
+    ensures tables_after { (forward.new ≡ cleared forward.old) × (backward.new ≡ cleared backward.old) }
 {
     let cells = board.cells;
+    let mut tables = Tables { forward, backward };
     run(
         board,
         choices,
         &mut room[..cells],
         &mut stack[..STACK],
-        forward,
-        backward,
+        &mut tables,
     )
 }

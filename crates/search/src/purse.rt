@@ -9,32 +9,17 @@ pub struct Purse {
     pub followed: u64,
 }
 
-// The choosing step: takes one choice, if one is left, and says whether there was one.
-fn take_choice(purse: &mut Purse) -> bool
-    requires { purse.old.left + purse.old.followed < 2 ^ 64 }
-    ensures { (purse.new ≡ taken purse.old) × (result ≡ one_left purse.old) }
-{
-    if purse.left == 0 {
-        return false;
+impl Purse {
+    // The choosing step: takes one choice, if one is left, and says whether there was one.
+    pub fn take_choice(&mut self) -> bool
+        requires { self.old.left + self.old.followed < 2 ^ 64 }
+        ensures { (self.new ≡ taken self.old) × (result ≡ one_left self.old) }
+    {
+        if self.left == 0 {
+            return false;
+        }
+        self.left -= 1;
+        self.followed += 1;
+        true
     }
-    purse.left = purse.left - 1;
-    purse.followed = purse.followed + 1;
-    true
-}
-
-// What the choosing step came to: whether a choice was left, and the purse afterwards.
-#[derive(Clone, Copy)]
-pub struct Paid {
-    pub paid: bool,
-    pub purse: Purse,
-}
-
-// The purse lent to the choosing step and taken back.
-pub fn after_choice(purse: Purse) -> Paid
-    requires { purse.left + purse.followed < 2 ^ 64 }
-    ensures { (result.purse ≡ taken purse) × (result.paid ≡ one_left purse) }
-{
-    let mut lent = purse;
-    let paid = take_choice(&mut lent);
-    Paid { paid, purse: lent }
 }

@@ -10,6 +10,7 @@ use Rattle.layers.specs.TableLaws.{backward_fits, written_layer, layer_at_lem, b
 use Rattle.layers.proofs.inner.fill_backward.Goals as goal
 use Rattle.layers.proofs.inner.fill_backward.Goals.{In-loop-i}
 
+-- the step to the layer below the one at i
 steps : (c : In-loop-i)
     → (let a = c.args in let i = c.loop-i.i - 1 in (b : ℕ) → b < sums
     → step c.loop-i.table (sums * i + sums) 0 (get_or a.weights.now i 0) (get_or a.domains.now i 0) b ≡ backward a.weights.now a.domains.now a.low a.high i b)

@@ -10,6 +10,7 @@ use Rattle.layers.specs.TableLaws.{forward_fits, written_layer, layer_at_lem, fo
 use Rattle.layers.proofs.inner.fill_forward.Goals as goal
 use Rattle.layers.proofs.inner.fill_forward.Goals.{In-loop-i}
 
+-- the step from the layer at i
 steps : (c : In-loop-i)
     → (let a = c.args in let l = c.loop-i in (b : ℕ) → b < sums
     → step l.table (sums * l.i) (get_or a.weights.now l.i 0) 0 (get_or a.domains.now l.i 0) b ≡ forward a.weights.now a.domains.now (suc l.i) b)

@@ -4,7 +4,7 @@ use mathlib.Core.Path.{◌≡◌}
 use Prim.Native.Nat.{◌+◌, ◌*◌}
 use lib.ListN.{length}
 use Rattle.settling.specs.Boards.{rows_of}
-use Rattle.choose.specs.Steps.{SameRest}
+use Rattle.choose.specs.Steps.{Kept}
 use Rattle.searching.specs.Searching.{searched}
 use Rattle.searching.specs.Levels.{search_all}
 use Rattle.search.specs.Stack.{trying, UnderWay, Same}
@@ -12,14 +12,13 @@ use Rattle.search.proofs.inner.descend.Given as goal
 
 abbrev pub invariant-loop-levels : goal.invariant-loop-levels
 invariant-loop-levels l =
-    UnderWay l.board l.h l.held l.domains l.stack l.forward l.backward
-    × Same l.held.left (search_all (rows_of l.board) (trying l.h l.domains l.stack)) l.initial.held.left (searched (rows_of l.board) l.initial.domains)
-    × (l.held.left + l.held.followed ≡ l.initial.held.left + l.initial.held.followed)
-    × (length l.stack ≡ length l.initial.stack)
-    × (length l.forward ≡ length l.initial.forward)
-    × (length l.backward ≡ length l.initial.backward)
-    × SameRest l.initial.forward l.forward
-    × SameRest l.initial.backward l.backward
+    record {
+      under_way : UnderWay l.board l.h l.purse l.domains l.stack;
+      same : Same l.purse.left (search_all (rows_of l.board) (trying l.h l.domains l.stack)) l.initial.purse.left (searched (rows_of l.board) l.initial.domains);
+      purse_same : l.purse.left + l.purse.followed ≡ l.initial.purse.left + l.initial.purse.followed;
+      stack_same : length l.stack ≡ length l.initial.stack;
+      kept : Kept l.initial.tables l.tables;
+    }
 
 abbrev pub decreases-loop-levels : goal.decreases-loop-levels
-decreases-loop-levels l = 2 * l.held.left + l.h
+decreases-loop-levels l = 2 * l.purse.left + l.h

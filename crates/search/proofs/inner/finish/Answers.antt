@@ -23,13 +23,10 @@ slice_bounds-run-end-4 c = sym (levels (goal.at.slice_bounds-run-end-4 c).Start)
 
 pub run-requires : goal.run-requires
 run-requires c =
-    (c.requires.0, cells (goal.at.run-requires c).Start, levels (goal.at.run-requires c).Start, c.requires.3, c.requires.4)
+    (c.requires.0, cells (goal.at.run-requires c).Start, levels (goal.at.run-requires c).Start)
 
-pub returns : goal.returns
-returns c =
+pub returns-clause-finished : goal.returns-clause-finished
+returns-clause-finished c =
     let r = c.run in
-    let n : length r.new.domains ≡ c.args.board.cells = omega (arith, cells (goal.at.returns c).Start) in
-    record {
-      finished = finished c.args.board c.args.choices c.args.room.now c.args.stack.now _ _ r.new.domains _ n r.ensures.ran;
-      forward_after = r.ensures.forward_after;
-    }
+    let n : length r.new.domains ≡ c.args.board.cells = omega (arith, cells (goal.at.returns-clause-finished c).Start) in
+    finished c.args.board c.args.choices c.args.room.now c.args.stack.now _ _ r.new.domains _ n r.ensures.ran
