@@ -1,9 +1,0 @@
--- `tanglepunt::tanglepunt_read` meets its contract: what the reader tells, flat. Assumes nothing.
-use mathlib.Core.Path.{◌∙◌}
-use Rattle.tanglepunt.specs.FlatLaws.{flat_reading}
-use Rattle.tanglepunt.proofs.tanglepunt_read.Goals as goal
-
-pub returns : goal.returns
-returns c =
-    let told = c.read.ensures in
-    c.reading_of.ensures ∙ flat_reading _ c.read.result told.board_value told.board_value_2
