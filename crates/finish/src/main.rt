@@ -2,9 +2,10 @@
 // ended and what the domain room then holds.
 #![tactic(auto)]
 
-ghost use Rattle.std.specs.Prelude.{OnOk};
+ghost use Rattle.std.specs.Prelude.{◌≡◌, OnOk};
 ghost use Rattle.std.specs.Io.KnownBytes.{Appends};
-ghost use Rattle.finish.specs.Finished.{finish_text};
+ghost use Rattle.finish.specs.Finished.{word_text, finish_text};
+ghost use Rattle.search.specs.Finishing.{word_by};
 
 use digits::number_of;
 use inputs::{arg, read_full};
@@ -38,7 +39,7 @@ fn finish<W: Write>(out: &mut W, file: &[u8], given: u64) -> io::Result<()>
     let mut stack = [0; STACK];
     let mut forward = [0; TABLE];
     let mut backward = [0; TABLE];
-    match search(
+    let ending = match search(
         file,
         &mut left,
         &mut room,
@@ -46,11 +47,21 @@ fn finish<W: Write>(out: &mut W, file: &[u8], given: u64) -> io::Result<()>
         &mut forward,
         &mut backward,
     ) {
-        Ok(Ending::Solved) => ended(out, b"SOLVED", given, left)?,
-        Ok(Ending::None) => ended(out, b"NONE", given, left)?,
-        Ok(Ending::Spent) => ended(out, b"SPENT", given, left)?,
+        Ok(ending) => ending,
         Err(refusal) => return refused(out, refusal.number()),
-    }
+    };
+    ended(out, word_of(ending), given, left)?;
     text(out, b"\n")?;
     cells(out, read(file).board.cells, room)
+}
+
+// The word for an ending.
+fn word_of(ending: Ending) -> &'static [u8]
+    ensures { result.now ≡ word_text (word_by ending) }
+{
+    match ending {
+        Ending::Solved => b"SOLVED",
+        Ending::None => b"NONE",
+        Ending::Spent => b"SPENT",
+    }
 }
