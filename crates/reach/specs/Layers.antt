@@ -1,11 +1,11 @@
 -- Each layer marks where the forward, or the backward, numbers are above zero: what the loops over a row's cells have. Assumes nothing.
-use Rattle.std.specs.Prelude.{◌≡◌, Bool, not, ◌&&◌, ◌||◌, List, ℕ, zero, suc, ◌+◌, ◌-◌, ◌*◌, ◌≤◌, ◌<◌, ltb, eqb, length, get_or, set}
+use Rattle.std.specs.Prelude.{◌≡◌, Bool, not, ◌&&◌, List, ℕ, zero, suc, ◌+◌, ◌-◌, ◌*◌, ◌≤◌, ◌<◌, ltb, eqb, length, get_or, set}
 use Rattle.std.proofs.Math.Path.{refl, sym, ap, ap₂}
 use Rattle.std.proofs.Common.{◌∙◌, subst, le_refl, add-one, lit<, get_or-set_same}
 use Rattle.std.proofs.Math.Bool.{true, false}
 use native.Mathlib.Omega.{arith}
 use Rattle.std.proofs.Math.Dec.{leb}
-use borrow.Author.Tests.{le-leb, lt-leb, ne_eqb, eqb-false, leb-true, leb-false, ltb-true, ltb-false}
+use borrow.Author.Tests.{ne_eqb, eqb-false, leb-true, leb-false, ltb-true, ltb-false}
 use Rattle.told.specs.Told.{when}
 use Rattle.sizes.specs.Sizes.{values, row_cells, highest, sums}
 use Rattle.sizes.specs.Sound.{SoundRow}
@@ -15,11 +15,10 @@ use Rattle.counting.specs.Counting.{lists, listed, within, forward, backward}
 use Rattle.counting.proofs.Domains.{sum_listed}
 use Rattle.counting.proofs.Tables.{forward_zero, forward_suc, backward_end, backward_suc, backward_high}
 use Rattle.words.specs.Words.{word_bits, set_words, bit, has, any, above_zero, Put}
-use Rattle.words.specs.Bits.{or_false, bit_high, has_word, word_other, any_cong, above_sum, above_when}
+use Rattle.words.specs.Bits.{bit_high, has_word, word_other, any_cong, above_sum, above_when}
 use Rattle.words.specs.Sets.{put_in, put_early, put_late}
-use Rattle.reach.specs.declared.inner.Way.{Way}
 use Rattle.reach.specs.declared.inner.Way.TheVariants.{Forward, Backward}
-use Rattle.reach.specs.Reach.{table_words, layer_word, layer_at, NewLayer, Marked, Clear, moved, reached, next}
+use Rattle.reach.specs.Reach.{table_words, layer_word, layer_at, NewLayer, Marked, Clear, reached, next}
 
 -- a table has its layers, and an empty set before each and after the last
 pub table_fits : table_words ≡ layer_word row_cells + set_words + set_words
@@ -105,18 +104,6 @@ above_listed d g =
     ap above_zero (sum_listed d g)
     ∙ above_sum (λ v. when (lists d v) (g v)) values
     ∙ any_cong _ _ values (λ v h. above_when (lists d v) (g v))
-
--- a set with what a value reaches: one that brings too much, and any other
-module _ (x : Bool) (t : List ℕ) (i : ℕ) (way : Way) (s b : ℕ) where
-  pub too_far : highest < s → x ≡ (x || reached t i way s b)
-  unfolding reached
-  too_far h = sym (ap (λ (y : Bool). x || (y && has t (moved way (layer_at i) s + b))) (lt-leb s highest h) ∙ or_false x)
-
-  pub in_reach : (q : ℕ) → s ≤ highest → q ≡ moved way (layer_at i) s → (x || has t (q + b)) ≡ (x || reached t i way s b)
-  unfolding reached
-  in_reach q h k =
-      ap (λ (n : ℕ). x || has t (n + b)) k
-      ∙ sym (ap (λ (v : Bool). x || (v && has t (moved way (layer_at i) s + b))) (le-leb s highest h))
 
 module _ (ws ds t : List ℕ) (i : ℕ) (in_row : i < length ds) (same : length ws ≡ length ds) where
   module _ (m : Marked (forward ws ds) t 0 (i + 1)) where
@@ -208,8 +195,10 @@ forward_more ws ds t u i h same m s = marked_up _ _ t u (i + 1) (next_forward ws
 
 -- and of layer i of the second when the backward number is
 module _ (ws ds : List ℕ) (low high : ℕ) (t u : List ℕ) where
-  pub backward_start : Clear t → NewLayer (within low high) t u (length ds) → Marked (backward ws ds low high) u (length ds) (length ds + 1)
-  backward_start z s = marked_down _ _ t u (length ds) (first_backward ws ds low high) s (length ds + 1) (marked_none _ t (length ds + 1) z)
+  pub backward_start : (l : List ℕ) (at : ℕ) → Clear t → ((b : ℕ) → b < sums → has l b ≡ within low high b) → at ≡ layer_word (length ds) → Put l t u at set_words
+      → Marked (backward ws ds low high) u (length ds) (length ds + 1)
+  backward_start l at z e place put =
+      marked_down _ _ t u (length ds) (first_backward ws ds low high) (new_layer _ l t u (length ds) at e place put) (length ds + 1) (marked_none _ t (length ds + 1) z)
 
   pub backward_more : (i : ℕ) → 0 < i → i ≤ length ds → SoundRow ws ds low high → Marked (backward ws ds low high) t i (length ds + 1)
       → NewLayer (next t (i - 1 + 1) Backward (get_or ws (i - 1) 0) (get_or ds (i - 1) 0)) t u (i - 1) → Marked (backward ws ds low high) u (i - 1) (length ds + 1)

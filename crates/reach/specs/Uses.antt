@@ -1,10 +1,9 @@
 -- The tables have a use for a value exactly when its count is above zero, so that what they leave is what striking leaves. Assumes nothing.
 use Rattle.std.specs.Prelude.{◌≡◌, refl, Bool, true, false, List, leb, length, get_or, set}
 use Rattle.std.proofs.Math.Path.{sym, ap, ap₂}
-use Rattle.std.proofs.Common.{◌∙◌, arith, le-leb}
+use Rattle.std.proofs.Common.{◌∙◌, arith}
 use Rattle.std.proofs.Math.Bool.{◌&&◌, not}
-use Prim.Native.Nat.{ℕ, suc, ◌+◌, ◌*◌, ◌^◌, ◌≤◌, ◌<◌}
-use Rattle.std.proofs.lemmas.Bool.{lt-leb}
+use Prim.Native.Nat.{ℕ, suc, ◌+◌, ◌*◌, ◌^◌, ◌<◌}
 use Rattle.std.proofs.Math.Dec.{eqb}
 use Rattle.told.specs.Told.{when}
 use Rattle.sizes.specs.Sizes.{values, highest, sums}
@@ -15,25 +14,11 @@ use Rattle.counting.proofs.Domains.{sum_listed_only}
 use Rattle.counting.proofs.Counts.{count_law}
 use Rattle.counting.specs.Steps.{StruckTo}
 use Rattle.counting.proofs.StepLaws.{struck_here, struck_more}
-use Rattle.words.specs.Words.{word_bits, has, any, above_zero, both}
+use Rattle.words.specs.Words.{has, any, above_zero, both}
 use Rattle.words.specs.Bits.{any_cong, any_none, above_sum, above_times}
-use Rattle.reach.specs.Reach.{layer_word, layer_at, Marked, reached, leads, uses, Tables}
+use Rattle.reach.specs.Reach.{layer_at, Marked, reached, leads, uses, Tables}
 use Rattle.reach.specs.Layers.{reached_down}
 use Rattle.reach.specs.Values.{ones}
-
--- ---- where a value leads
-
--- a value leads nowhere past the last sum, and else where the layers meet
-module _ (f g : List ℕ) (i s : ℕ) where
-  pub leads_far : highest < s → false ≡ leads f g i s
-  unfolding leads
-  leads_far h = sym (ap (λ (t : Bool). t && any (both f (layer_at i) g (layer_at (i + 1) + s)) sums) (lt-leb s highest h))
-
-  pub leads_near : (a b : ℕ) (r : Bool) → s ≤ highest → a ≡ layer_word i → b ≡ layer_word (i + 1) → r ≡ any (both f (word_bits * a) g (word_bits * b + s)) sums → r ≡ leads f g i s
-  unfolding leads
-  leads_near a b r h ea eb e =
-      e ∙ ap₂ (λ (m n : ℕ). any (both f (word_bits * m) g (word_bits * n + s)) sums) ea eb
-      ∙ sym (ap (λ (t : Bool). t && any (both f (layer_at i) g (layer_at (i + 1) + s)) sums) (le-leb s highest h))
 
 -- ---- what the tables leave is what striking leaves
 

@@ -66,6 +66,7 @@ struct Layer<'a> {
 
 impl Layer<'_> {
     // Adds to a set what a value that brings s to the sum reaches from there.
+    #[tactic(auto, unfolding(crate::specs::Reach::reached))]
     fn add_value(self, set: &mut SumSet, s: usize)
         ensures { (b : ℕ) → b < sums → has set.new b ≡ (has set.old b || reached self.entry.table.now self.entry.i self.entry.way s b) }
     {
@@ -90,6 +91,7 @@ impl Layer<'_> {
 }
 
 // Writes layer `to` of a table: what a cell reaches from layer `from`.
+#[tactic(auto, using(crate::specs::Layers::new_layer))]
 fn step(t: &mut Table, from: usize, to: usize, way: Way, weight: u8, domain: u32)
     requires { (from ≤ row_cells) × (to ≤ row_cells) }
     ensures { NewLayer (next t.old from way weight domain) t.old t.new to }
@@ -104,6 +106,7 @@ fn step(t: &mut Table, from: usize, to: usize, way: Way, weight: u8, domain: u32
 }
 
 // Marks in an empty table where the forward numbers are above zero.
+#[tactic(auto, using(crate::specs::Layers::forward_start, crate::specs::Layers::forward_more))]
 fn mark_forward(weights: &[u8], domains: &[u32], t: &mut Table)
     requires { (length domains.now ≤ row_cells) × (length weights.now ≡ length domains.now) × Clear t.old }
     ensures { Marked (forward weights.now domains.now) t.new 0 (length domains.now + 1) }
@@ -116,6 +119,7 @@ fn mark_forward(weights: &[u8], domains: &[u32], t: &mut Table)
 }
 
 // Marks in an empty table where the backward numbers are above zero.
+#[tactic(auto, using(crate::specs::Layers::backward_start, crate::specs::Layers::backward_more))]
 fn mark_backward(weights: &[u8], domains: &[u32], low: usize, high: usize, t: &mut Table)
     requires { SoundRow weights.now domains.now low high × Clear t.old }
     ensures { Marked (backward weights.now domains.now low high) t.new 0 (length domains.now + 1) }
@@ -147,6 +151,7 @@ struct Place<'a> {
 
 impl Place<'_> {
     // Whether the tables have a use for a value that brings s to the sum.
+    #[tactic(auto, unfolding(crate::specs::Reach::leads))]
     fn uses(self, s: usize) -> bool
         ensures { result ≡ leads self.entry.forward.now self.entry.backward.now self.entry.i s }
     {

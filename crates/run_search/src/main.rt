@@ -123,17 +123,17 @@ struct Lent {
 fn try_rooms<R: Files + Eprint, W: Write>(rt: &R, out: &mut W, name: &[u8]) -> io::Result<()> {
     let mut buffer = [0; INPUT];
     let size = read_file(rt, name, &mut buffer)?;
-    let just = lent(TABLE, TABLE, BOARD_CELLS, STACK);
+    let just = lengths(TABLE, TABLE, BOARD_CELLS, STACK);
     let rooms = [
         just,
-        lent(TABLE, TABLE, BOARD_CELLS + MORE, STACK + MORE),
-        lent(TABLE - 1, TABLE, BOARD_CELLS, STACK),
-        lent(TABLE, TABLE - 1, BOARD_CELLS, STACK),
-        lent(TABLE, TABLE, BOARD_CELLS - 1, STACK),
-        lent(TABLE, TABLE, BOARD_CELLS, STACK - 1),
-        lent(TABLE, TABLE, BOARD_CELLS - 1, STACK - 1),
-        lent(TABLE - 1, TABLE - 1, BOARD_CELLS - 1, STACK - 1),
-        lent(0, 0, 0, 0),
+        lengths(TABLE, TABLE, BOARD_CELLS + MORE, STACK + MORE),
+        lengths(TABLE - 1, TABLE, BOARD_CELLS, STACK),
+        lengths(TABLE, TABLE - 1, BOARD_CELLS, STACK),
+        lengths(TABLE, TABLE, BOARD_CELLS - 1, STACK),
+        lengths(TABLE, TABLE, BOARD_CELLS, STACK - 1),
+        lengths(TABLE, TABLE, BOARD_CELLS - 1, STACK - 1),
+        lengths(TABLE - 1, TABLE - 1, BOARD_CELLS - 1, STACK - 1),
+        lengths(0, 0, 0, 0),
     ];
     for lent in rooms {
         lend(out, name, &buffer[..size], lent)?;
@@ -141,7 +141,7 @@ fn try_rooms<R: Files + Eprint, W: Write>(rt: &R, out: &mut W, name: &[u8]) -> i
     Ok(())
 }
 
-fn lent(forward: usize, backward: usize, room: usize, stack: usize) -> Lent
+fn lengths(forward: usize, backward: usize, room: usize, stack: usize) -> Lent
     requires { (forward ≤ table_size) × (backward ≤ table_size) × (room ≤ board_cells + 4) × (stack ≤ stack_size + 4) }
 {
     Lent {

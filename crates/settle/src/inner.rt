@@ -1,11 +1,10 @@
 // Settling for the floors above, which have made sure that the board is sound and that the room lent holds its domains.
 ghost use Rattle.std.specs.Prelude.{◌≡◌, ◌+◌, ◌≤◌, length};
-ghost use Rattle.sizes.specs.Sound.{SoundRow};
 ghost use Rattle.listing.specs.Listing.{onto};
 ghost use Rattle.counting.specs.Counting.{size};
 ghost use Rattle.board.specs.Sound.{SoundLine, SoundBoard};
-ghost use Rattle.settling.specs.Settling.{Inside, Fits, gather, scatter, visit, pass, settle};
-ghost use Rattle.settling.specs.Boards.{row_with, row_of, rows_of, settle_room};
+ghost use Rattle.settling.specs.Settling.{Inside, gather, scatter, visit, pass, settle};
+ghost use Rattle.settling.specs.Boards.{row_of, rows_of, settle_room};
 ghost use Rattle.settle.specs.Settle.{tally_of, board_values};
 
 use crate::Tally;
@@ -13,6 +12,7 @@ use board::{Board, Row};
 use sizes::ROW_CELLS;
 
 // The domains of the named cells.
+#[tactic(auto, using(settling::specs::Cells::gather_only))]
 pub fn gather_row(domains: &[u32], names: &[usize], part: &mut [u32])
     requires { (length part.old ≡ length names.now) × Inside (length domains.now) names.now }
     ensures { part.new ≡ gather domains.now names.now }
@@ -22,13 +22,14 @@ pub fn gather_row(domains: &[u32], names: &[usize], part: &mut [u32])
     }
 }
 
-// Such domains put back.
+// Such domains put back, by place: a zip of names and part is slower.
+#[tactic(auto, using(settling::specs::Cells::scatter_next, settling::specs::Cells::scatter_end))]
 fn scatter_row(domains: &mut [u32], names: &[usize], part: &[u32])
     requires { (length part.now ≡ length names.now) × Inside (length domains.old) names.now }
     ensures { domains.new ≡ scatter names.now part.now domains.old }
 {
-    for (cell, domain) in names.iter().zip(part) {
-        domains[*cell] = *domain;
+    for (p, cell) in names.iter().enumerate() {
+        domains[*cell] = part[p];
     }
 }
 
@@ -49,6 +50,7 @@ fn visit_row(domains: &mut [u32], row: &Row) -> usize
 }
 
 // A pass over the board's rows, with the tally of what came before it.
+#[tactic(auto, using(settling::proofs::BoardLaws::pass_none, settling::proofs::BoardLaws::pass_next))]
 fn pass_rows(domains: &mut [u32], board: &Board, before: Tally) -> Tally
     requires { SoundBoard board.now × (length domains.old ≡ board.now.cells) × (before.struck + size domains.old ≤ board_values) × (before.passes ≤ board_values) }
     ensures domains_after { domains.new ≡ pass (rows_of board.now) domains.old }

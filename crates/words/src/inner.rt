@@ -11,6 +11,7 @@ use sizes::{HIGHEST, SUMS};
 pub type SumSet = [u64; SET_WORDS];
 
 // A word of a table as it stands from bit m of word q on: the one place that reads across two words.
+#[tactic(auto, using(crate::specs::Bits::bit_window))]
 fn window(t: &[u64], q: usize, m: usize) -> u64
     requires { (q + 1 < length t.now) × (m < word_bits) }
     ensures { (c : ℕ) → c < word_bits → bit result c ≡ has t.now (word_bits * q + (m + c)) }
@@ -32,6 +33,7 @@ pub fn joined(mut set: SumSet, t: &[u64], p: usize) -> SumSet
 }
 
 // Whether word i of a table and another from bit m of word q on have a bit in common.
+#[tactic(auto, using(crate::specs::Sets::word_shares))]
 fn shares(f: &[u64], i: usize, g: &[u64], q: usize, m: usize) -> bool
     requires { (i < length f.now) × (q + 1 < length g.now) × (m < word_bits) }
     ensures { result ≡ any (both f.now (word_bits * i) g.now (word_bits * q + m)) word_bits }
@@ -50,6 +52,7 @@ pub fn meets(f: &[u64], a: usize, g: &[u64], p: usize) -> bool
 }
 
 // Writes a set into a table, from word `at` on.
+#[tactic(auto, using(crate::specs::Sets::put_part))]
 pub fn put(t: &mut [u64], at: usize, set: SumSet)
     requires { at + set_words ≤ length t.old }
     ensures { Put set t.old t.new at set_words }
@@ -67,6 +70,7 @@ fn padded(set: SumSet) -> [u64; 3 * SET_WORDS]
 }
 
 // The set of the sums from low to high: those from 0 to high - low, moved up by low.
+#[tactic(auto, using(crate::specs::Sets::range_has))]
 pub fn range(low: usize, high: usize) -> SumSet
     requires { (low ≤ high) × (high ≤ highest) }
     ensures { (b : ℕ) → b < sums → has result b ≡ within low high b }
