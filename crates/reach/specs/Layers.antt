@@ -1,16 +1,15 @@
 -- Each layer marks where the forward, or the backward, numbers are above zero: what the loops over a row's cells have. Assumes nothing.
-use Rattle.std.specs.Prelude.{◌≡◌, Bool, not, ◌&&◌, List, ℕ, zero, suc, ◌+◌, ◌-◌, ◌*◌, ◌≤◌, ◌<◌, ltb, eqb, length, get_or, set}
+use Rattle.std.specs.Prelude.{◌≡◌, Bool, ◌&&◌, List, ℕ, zero, suc, ◌+◌, ◌-◌, ◌*◌, ◌≤◌, ◌<◌, ltb, eqb, length, get_or, set}
 use Rattle.std.proofs.Math.Path.{refl, sym, ap, ap₂}
 use Rattle.std.proofs.Common.{◌∙◌, subst, le_refl, add-one, lit<, get_or-set_same}
 use Rattle.std.proofs.Math.Bool.{true, false}
 use native.Mathlib.Omega.{arith}
 use Rattle.std.proofs.Math.Dec.{leb}
-use borrow.Author.Tests.{ne_eqb, eqb-false, leb-true, leb-false, ltb-true, ltb-false}
+use borrow.Author.Tests.{ne_eqb, leb-true, leb-false, ltb-true, ltb-false}
 use Rattle.told.specs.Told.{when}
 use Rattle.sizes.specs.Sizes.{values, row_cells, highest, sums}
 use Rattle.sizes.specs.Sound.{SoundRow}
 use Rattle.listing.specs.Listing.{sum_over}
-use Rattle.listing.specs.Sums.{never}
 use Rattle.counting.specs.Counting.{lists, listed, within, forward, backward}
 use Rattle.counting.proofs.Domains.{sum_listed}
 use Rattle.counting.proofs.Tables.{forward_zero, forward_suc, backward_end, backward_suc, backward_high}
@@ -40,18 +39,6 @@ new_layer set l t u i at e place put =
 module _ (F : ℕ → ℕ → ℕ) (t : List ℕ) where
   pub marked_none : (i : ℕ) → Clear t → Marked F t i i
   marked_none i z = record { marks = λ k b l m n. absurd (omega arith); empty = λ k b m. z (2 * sums * k + b) }
-
-  -- bit b of layer i is set exactly when the number there is above zero
-  module _ (lo hi : ℕ) (m : Marked F t lo hi) (i b : ℕ) (l : lo ≤ i) (h : i < hi) (k : b < sums) where
-    pub set→above : has t (layer_at i + b) ≡ true → 0 < F i b
-    set→above e = go (eqb (F i b) 0) refl (sym (m.marks i b l h k) ∙ e)
-      where
-        go : (z : Bool) → eqb (F i b) 0 ≡ z → above_zero (F i b) ≡ true → 0 < F i b
-        go true q a = absurd (never (sym (ap (λ (z : Bool). not z) q) ∙ a))
-        go false q a = let n = eqb-false (F i b) 0 q in omega arith
-
-    pub above→set : 0 < F i b → has t (layer_at i + b) ≡ true
-    above→set a = m.marks i b l h k ∙ ap not (ne_eqb (F i b) 0 (λ z. omega arith))
 
 -- one layer more, above or below those that are marked
 module _ (F : ℕ → ℕ → ℕ) (set : ℕ → Bool) (t u : List ℕ) (j : ℕ) (new : (b : ℕ) → b < sums → set b ≡ above_zero (F j b)) (s : NewLayer set t u j) where

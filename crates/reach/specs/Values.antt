@@ -1,8 +1,8 @@
 -- Laws of a domain's values gone through from 0 on, up to an end past which none is listed. Assumes nothing.
 use Rattle.std.specs.Prelude.{◌≡◌, refl, Bool, true, false, not, ◌&&◌, ◌||◌, List, length}
 use Rattle.std.proofs.Math.Path.{sym, ap, ap₂}
-use Rattle.std.proofs.Common.{◌∙◌, add-zero, mul-le-mul, le_refl, arith}
-use Prim.Native.Nat.{ℕ, ◌+◌, ◌*◌, ◌^◌, ◌≤◌, ◌<◌}
+use Rattle.std.proofs.Common.{◌∙◌, add-zero, le_refl, arith}
+use Prim.Native.Nat.{ℕ, ◌+◌, ◌^◌, ◌≤◌, ◌<◌}
 use Rattle.told.specs.Told.{when}
 use Rattle.sizes.specs.Sizes.{values}
 use Rattle.listing.specs.Listing.{only, how_many, sum_over, below}
@@ -12,10 +12,6 @@ use Rattle.counting.proofs.Domains.{sum_listed_only, domain_lt}
 use Rattle.words.specs.Words.{any}
 use Rattle.words.specs.Bits.{or_false, any_more, any_stop, bit_high}
 use Rattle.reach.specs.Reach.{Parted}
-
--- what a value brings to the sum
-pub brings_fits : (w v : ℕ) → w < 256 → v < values → w * v < 2 ^ 13
-brings_fits w v h k = omega (arith, mul-le-mul {n₁ = w} {m₁ = v} {n₂ = 255} {m₂ = 31} (omega arith) (omega arith))
 
 -- whether some listed value passes a test: one value more, that is listed or not, and all
 module _ (d : ℕ) (test : ℕ → Bool) where

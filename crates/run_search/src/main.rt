@@ -95,14 +95,16 @@ fn say_answer<W: Write>(
 
 // The cells of a board, neighbours with the same values together.
 fn say_cells<W: Write>(out: &mut W, cells: usize, room: [u32; BOARD_CELLS]) -> io::Result<()> {
-    let mut before = " CELLS";
-    for alike in room[..cells.min(BOARD_CELLS)].chunk_by(|a, b| a == b) {
-        write!(out, "{before}")?;
-        before = ",";
-        if 1 < alike.len() {
-            write!(out, " {} TIMES", alike.len())?;
+    let alike = room[..cells.min(BOARD_CELLS)].chunk_by(|a, b| a == b);
+    for (k, group) in alike.enumerate() {
+        match k {
+            0 => write!(out, " CELLS")?,
+            _ => write!(out, ",")?,
         }
-        if let Some(domain) = alike.first() {
+        if 1 < group.len() {
+            write!(out, " {} TIMES", group.len())?;
+        }
+        if let Some(domain) = group.first() {
             values(out, *domain)?;
         }
     }
@@ -178,13 +180,17 @@ fn lend<W: Write>(out: &mut W, name: &[u8], file: &[u8], lent: Lent) -> io::Resu
         &mut [0; TABLE][..backward],
     );
     say_answer(out, answer, 10, left)?;
-    let zeros = count(&levels[..STACK], 0);
-    let kept = count(&levels, FRESH);
+    let zeros = count(&levels, STACK, 0);
+    let kept = count(&levels, STACK + MORE, FRESH);
     write!(out, ", STACK ZEROS {zeros} KEPT {kept}")?;
-    writeln!(out, ", ROOM KEPT {}", count(&domains, FRESH))
+    writeln!(
+        out,
+        ", ROOM KEPT {}",
+        count(&domains, BOARD_CELLS + MORE, FRESH)
+    )
 }
 
-// How many of a room's entries are this one.
-fn count(room: &[u32], entry: u32) -> usize {
-    room.iter().filter(|other| **other == entry).count()
+// How many of a room's first n entries are this one.
+fn count(room: &[u32], n: usize, entry: u32) -> usize {
+    room.iter().take(n).filter(|other| **other == entry).count()
 }
