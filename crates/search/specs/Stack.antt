@@ -1,6 +1,6 @@
 -- The lent stack room level by level, and what a step and a search of it promise. Definitions only.
 -- n is the number of cells, h the number of levels in use, d the domains that are looked at.
-use Rattle.std.specs.Prelude.{◌≡◌, List, [], ◌∷◌, ◌++◌, ℕ, zero, suc, ◌+◌, ◌-◌, ◌*◌, ◌^◌, ◌≤◌, ◌<◌, length, take, drop, replicate}
+use Rattle.std.specs.Prelude.{◌≡◌, List, [], ◌∷◌, ◌++◌, ℕ, zero, suc, ◌+◌, ◌-◌, ◌*◌, ◌^◌, ◌≤◌, ◌<◌, length, take, drop, replicate, Option, None, Some}
 use Rattle.sizes.specs.Sizes.{board_cells, stack_size}
 use Rattle.listing.specs.Listing.{onto}
 use Rattle.board.specs.declared.Board.{Board}
@@ -14,8 +14,6 @@ use Rattle.searching.specs.Levels.{search_all, open_cells}
 use Rattle.search.specs.declared.purse.Purse.{Purse}
 use Rattle.search.specs.declared.Ending.{Ending as Verdict}
 use Rattle.search.specs.declared.Ending.TheVariants as verdict
-use Rattle.std.specs.declared.ops.ControlFlow.{ControlFlow}
-use Rattle.std.specs.declared.ops.ControlFlow.TheVariants.{Continue, Break}
 use Rattle.search.specs.Finishing.{word_by, word_of, domains_after, end_of, needed_on, emptied}
 
 -- ---- levels
@@ -74,9 +72,13 @@ pub record Ended (purse : Purse) (before : Found) (v : Verdict) (purse' : Purse)
   pub remains : purse'.left ≡ choices_left purse.left before
   pub purse_same : purse'.left + purse'.followed ≡ purse.left + purse.followed
 
-abbrev pub Stepped : List Row → ℕ → Purse → List ℕ → List ℕ → ControlFlow Verdict ℕ → Purse → List ℕ → List ℕ → Type 0
-Stepped rs h purse d stack (Continue h') purse' d' stack' = Onward rs h purse d stack h' purse' d' stack'
-Stepped rs h purse d stack (Break v) purse' d' stack' = Ended purse (search_all rs (trying h d stack)) v purse' d'
+-- the same of a search that begins, with so many choices
+abbrev pub Came : ℕ → Found → Verdict → Purse → List ℕ → Type 0
+Came choices before v purse' d' = Ended (record { left = choices; followed = 0 }) before v purse' d'
+
+abbrev pub Stepped : List Row → ℕ → Purse → List ℕ → List ℕ → Option Verdict → ℕ → Purse → List ℕ → List ℕ → Type 0
+Stepped rs h purse d stack None h' purse' d' stack' = Onward rs h purse d stack h' purse' d' stack'
+Stepped rs h purse d stack (Some v) h' purse' d' stack' = Ended purse (search_all rs (trying h d stack)) v purse' d'
 
 -- ---- the whole search
 

@@ -2,14 +2,12 @@
 ghost use Rattle.std.specs.Prelude.{◌≡◌, ◌+◌, ◌-◌, ◌*◌, ◌^◌, ◌<◌, ◌≤◌, length, get_or, replicate};
 ghost use Rattle.sizes.specs.Sizes.{values, board_cells, table_size, stack_size};
 ghost use Rattle.board.specs.Sound.{SoundBoard};
-ghost use Rattle.settling.specs.Settling.{settle as settling};
 ghost use Rattle.settling.specs.Boards.{rows_of};
-ghost use Rattle.choosing.specs.Choosing.{to_lowest, choose as choice};
-ghost use Rattle.choose.specs.Advice.{cleared};
 ghost use Rattle.searching.specs.Searching.{lowest, lowests, cut_to, removed, searched};
+ghost use Rattle.searching.specs.Promised.{Playable};
 ghost use Rattle.advice.specs.Advising.{Cleared, settled_of};
 ghost use Rattle.search.specs.Finishing.{domains_after};
-ghost use Rattle.search.specs.Stack.{level, saved, UnderWay, shown, Ended as Comes, Stepped, Ran, Finished};
+ghost use Rattle.search.specs.Stack.{level, saved, Roomy, trying, shown, Ended as Comes, Came, Stepped, Ran, Finished};
 
 use crate::Ending;
 use crate::purse::Purse;
@@ -18,21 +16,12 @@ use beat::Ties;
 use board::Board;
 use choose::{Advice, Tables};
 use sizes::{BOARD_CELLS, STACK};
-use std::ops::ControlFlow;
 
 // How a search ended, and what is left of its purse.
 #[derive(Clone, Copy)]
 pub struct Ended {
     pub ending: Ending,
     pub purse: Purse,
-}
-
-// The domain that lists only this value.
-fn only(value: usize) -> u32
-    requires { value < values }
-    ensures { result ≡ 2 ^ value }
-{
-    1u32 << value
 }
 
 // The domain cut to its lowest value, which of an empty one is 0.
@@ -61,10 +50,10 @@ fn follow(domains: &mut [u32], level: &mut [u32], cell: usize, value: usize)
     requires { (length level.old ≡ length domains.old) × (cell < length domains.old) × (value < values) × (2 ^ value ≤ get_or domains.old cell 0) }
     ensures { (domains.new ≡ cut_to domains.old cell value) × (level.new ≡ removed domains.old cell value) }
 {
+    let advised = 1 << value;
     level.copy_from_slice(domains);
-    let p = only(value);
-    level[cell] = level[cell] - p;
-    domains[cell] = p;
+    level[cell] -= advised;
+    domains[cell] = advised;
 }
 
 // The advice is followed; the domains without its value are saved as level h.
@@ -77,70 +66,108 @@ fn save(domains: &mut [u32], stack: &mut [u32], h: usize, cell: usize, value: us
     follow(domains, &mut stack[at..at + n], cell, value);
 }
 
-// The domains saved as level h, taken back.
-fn restore(domains: &mut [u32], stack: &[u32], h: usize)
-    requires { (length domains.old ≤ board_cells) × (stack_size ≤ length stack.now) × (h < board_cells) }
-    ensures { domains.new ≡ level (length domains.old) h stack.now }
+// The domains saved as level h, taken back. The stack is lent by `&mut`, though it stays the same: of what a `&` out of a struct's
+// `&mut` field shows, the check knows no more than the length afterwards.
+fn restore(domains: &mut [u32], stack: &mut [u32], h: usize)
+    requires { (length domains.old ≤ board_cells) × (stack_size ≤ length stack.old) × (h < board_cells) }
+    ensures { (domains.new ≡ level (length domains.old) h stack.old) × (stack.new ≡ stack.old) }
 {
     let n = domains.len();
     let at = BOARD_CELLS * h;
     domains.copy_from_slice(&stack[at..at + n]);
 }
 
-// One look, and what follows from it: back to the last level saved, on from the advice, or the end. It goes on with so many levels in use.
-fn take_step(
+// A search under way: what it still has to try are the domains and then the levels in use, last first. The tables are lent beside it,
+// since of a struct in another struct the check doesn't know afterwards which rooms it held.
+#[derive(Drop)]
+struct Descent<'a> {
     board: Board,
-    h: usize,
-    purse: &mut Purse,
-    domains: &mut [u32],
-    stack: &mut [u32],
-    tables: &mut Tables<'_>,
-) -> ControlFlow<Ending, usize>
-    requires { UnderWay board h purse.old domains.old stack.old }
-    ensures stepped { Stepped (rows_of board) h purse.old domains.old stack.old result purse.new domains.new stack.new }
-    ensures tables_after { Cleared tables.old tables.new }
-{
-    // Ties go to the lowest value.
-    match look(Ties::Lowest, board, domains, tables).advice {
-        Advice::Dead => {
-            if h == 0 {
-                return ControlFlow::Break(Ending::None);
+    purse: Purse,
+    levels: usize,
+    domains: &'a mut [u32],
+    stack: &'a mut [u32],
+    ghost sound: { SoundBoard board },
+    ghost cells: { length domains.now ≡ board.cells },
+    ghost stack_room: { stack_size ≤ length stack.now },
+    ghost purse_fits: { purse.left + purse.followed < 2 ^ 64 },
+}
+
+impl Descent<'_> {
+    // One look, and what follows from it: back to the last level saved, on from the advice, or the end.
+    fn take_step(&mut self, tables: &mut Tables<'_>) -> Option<Ending>
+        requires { Roomy (rows_of self.old.board) (length self.old.domains.now) (trying self.old.levels self.old.domains.now self.old.stack.now) }
+        ensures stepped { Stepped (rows_of self.old.board) self.old.levels self.old.purse self.old.domains.now self.old.stack.now result self.new.levels self.new.purse self.new.domains.now self.new.stack.now }
+        ensures same_board { self.new.board ≡ self.old.board }
+        ensures same_rooms { (self.new.domains.ghost_name ≡ self.old.domains.ghost_name) × (self.new.stack.ghost_name ≡ self.old.stack.ghost_name) }
+        ensures tables_after { Cleared tables.old tables.new }
+    {
+        // Ties go to the lowest value.
+        match look(Ties::Lowest, self.board, self.domains, tables).advice {
+            Advice::Dead => {
+                if self.levels == 0 {
+                    return Some(Ending::None);
+                }
+                self.levels -= 1;
+                restore(self.domains, self.stack, self.levels);
+                None
             }
-            restore(domains, stack, h - 1);
-            ControlFlow::Continue(h - 1)
-        }
-        Advice::Settled => {
-            cut_all_to_lowest(domains);
-            ControlFlow::Break(Ending::Solved)
-        }
-        Advice::Advise { cell, value, .. } => {
-            if !purse.take_choice() {
-                return ControlFlow::Break(Ending::Spent);
+            Advice::Settled => {
+                cut_all_to_lowest(self.domains);
+                Some(Ending::Solved)
             }
-            save(domains, stack, h, cell, value);
-            ControlFlow::Continue(h + 1)
+            Advice::Advise { cell, value, .. } => {
+                if !self.purse.take_choice() {
+                    return Some(Ending::Spent);
+                }
+                save(self.domains, self.stack, self.levels, cell, value);
+                self.levels += 1;
+                None
+            }
+        }
+    }
+
+    // Steps until the search is over; it begins with no level in use.
+    fn to_end(&mut self, tables: &mut Tables<'_>) -> Ending
+        requires { (self.old.levels ≡ 0) × Playable (rows_of self.old.board) self.old.domains.now }
+        ensures comes { Comes self.old.purse (searched (rows_of self.old.board) self.old.domains.now) result self.new.purse self.new.domains.now }
+        ensures same_board { self.new.board ≡ self.old.board }
+        ensures same_rooms { (self.new.domains.ghost_name ≡ self.old.domains.ghost_name) × (self.new.stack.ghost_name ≡ self.old.stack.ghost_name) }
+        ensures tables_after { Cleared tables.old tables.new }
+    {
+        loop {
+            if let Some(ending) = self.take_step(tables) {
+                return ending;
+            }
         }
     }
 }
 
-// The search from these domains; the stack is room for 64 levels.
+// The search from these domains, with so many choices; the stack is room for 64 levels.
 fn descend(
     board: Board,
-    purse: &mut Purse,
+    choices: u64,
     domains: &mut [u32],
     stack: &mut [u32],
     tables: &mut Tables<'_>,
-) -> Ending
-    requires { SoundBoard board × (length domains.old ≡ board.cells) × (stack_size ≤ length stack.old) × (purse.old.left + purse.old.followed < 2 ^ 64) }
-    ensures comes { Comes purse.old (searched (rows_of board) domains.old) result purse.new domains.new }
+) -> Ended
+    requires { SoundBoard board × (length domains.old ≡ board.cells) × (stack_size ≤ length stack.old) }
+    ensures comes { Came choices (searched (rows_of board) domains.old) result.ending result.purse domains.new }
     ensures tables_after { Cleared tables.old tables.new }
 {
-    let mut h = 0;
-    loop {
-        match take_step(board, h, purse, domains, stack, tables) {
-            ControlFlow::Continue(levels) => h = levels,
-            ControlFlow::Break(ending) => return ending,
-        }
+    let mut descent = Descent {
+        board,
+        purse: Purse {
+            left: choices,
+            followed: 0,
+        },
+        levels: 0,
+        domains,
+        stack,
+    };
+    let ending = descent.to_end(tables);
+    Ended {
+        ending,
+        purse: descent.purse,
     }
 }
 
@@ -171,14 +198,10 @@ fn run(
     ensures tables_after { Cleared tables.old tables.new }
 {
     store(board, domains);
-    let mut purse = Purse {
-        left: choices,
-        followed: 0,
-    };
-    let ending = descend(board, &mut purse, domains, stack, tables);
+    let ended = descend(board, choices, domains, stack, tables);
     stack.fill(0);
-    leave(board, ending, domains);
-    Ended { ending, purse }
+    leave(board, ended.ending, domains);
+    ended
 }
 
 // The whole search, in the front of the domain room and of the stack room.
@@ -187,20 +210,18 @@ pub fn finish(
     choices: u64,
     room: &mut [u32],
     stack: &mut [u32],
-    forward: &mut [u64],
-    backward: &mut [u64],
+    tables: &mut Tables<'_>,
 ) -> Ended
-    requires { SoundBoard board × (board_cells ≤ length room.old) × (stack_size ≤ length stack.old) × (table_size ≤ length forward.old) × (table_size ≤ length backward.old) }
+    requires { SoundBoard board × (board_cells ≤ length room.old) × (stack_size ≤ length stack.old) }
     ensures finished { Finished board choices room.old stack.old result.ending result.purse room.new stack.new }
-    ensures tables_after { (forward.new ≡ cleared forward.old) × (backward.new ≡ cleared backward.old) }
+    ensures tables_after { Cleared tables.old tables.new }
 {
     let cells = board.cells;
-    let mut tables = Tables { forward, backward };
     run(
         board,
         choices,
         &mut room[..cells],
         &mut stack[..STACK],
-        &mut tables,
+        tables,
     )
 }

@@ -10,6 +10,7 @@ ghost use Rattle.sizes.specs.Sizes.{board_cells, table_size, stack_size};
 ghost use Rattle.search.specs.Finishing.{told, lent_refuses, search_says, lent, search_leaves};
 
 use advice::inner::rooms_refuse;
+use choose::Tables;
 use inner::finish;
 use reader::{Reading, read};
 use sizes::STACK;
@@ -42,7 +43,8 @@ pub fn search(
     let Ok(()) = outcome else {
         return Err(outcome.unwrap_err());
     };
-    let ended = finish(board, *choices, room, stack, forward, backward);
+    let mut tables = Tables { forward, backward };
+    let ended = finish(board, *choices, room, stack, &mut tables);
     *choices = ended.purse.left;
     Ok(ended.ending)
 }

@@ -1,5 +1,5 @@
 -- `inner::finish` meets its contract: the fronts of the two rooms are lent and come back new. Assumes nothing.
-use mathlib.Core.Path.{◌≡◌, sym}
+use mathlib.Core.Path.{◌≡◌}
 use native.Mathlib.Omega.{arith}
 use lib.ListN.{length, take}
 use lib.Seq.{length-take-le}
@@ -14,12 +14,6 @@ cells c = length-take-le c.args.board.cells c.args.room.now (omega (arith, c.req
 
 levels : (c : Start) → length (take stack_size c.args.stack.now) ≡ stack_size
 levels c = length-take-le stack_size c.args.stack.now c.requires.2
-
-pub slice_bounds-run-end-2 : goal.slice_bounds-run-end-2
-slice_bounds-run-end-2 c = sym (cells (goal.at.slice_bounds-run-end-2 c).Start)
-
-pub slice_bounds-run-end-4 : goal.slice_bounds-run-end-4
-slice_bounds-run-end-4 c = sym (levels (goal.at.slice_bounds-run-end-4 c).Start)
 
 pub run-requires : goal.run-requires
 run-requires c =
