@@ -75,9 +75,11 @@ pub fn values<W: Write>(out: &mut W, domain: u32) -> io::Result<()>
 }
 
 fn if_listed<W: Write>(out: &mut W, domain: u32, value: usize) -> io::Result<()>
-    requires { value < values }
-    ensures { OnOk result (Appends (W.contents out.old) (W.contents out.new) (value_text domain value)) }
+    ensures { value < values → OnOk result (Appends (W.contents out.old) (W.contents out.new) (value_text domain value)) }
 {
+    if VALUES <= value {
+        return Ok(());
+    }
     if (domain >> value) % 2 == 1 {
         write!(out, " {value}")?;
     }

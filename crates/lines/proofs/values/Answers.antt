@@ -1,5 +1,5 @@
 -- The values below this one are said, and one more is. Assumes nothing.
-use Rattle.std.proofs.Common.{ap}
+use Rattle.std.proofs.Common.{arith, ap}
 use Rattle.lines.proofs.Saying.{said_none, said_nothing, said_value}
 use Rattle.lines.proofs.values.Goals as goal
 use Rattle.lines.proofs.values.Goals.{then-domain-eq0+in_ok-write, else-domain-eq0}
