@@ -13,4 +13,4 @@ loop-value-init g c =
     ]
 
 pub loop-value-preserved : goal.loop-value-preserved
-loop-value-preserved g c = said_value _ _ _ _ _ _ c.loop-value.invariant (c.in_ok-if_listed.ensures)
+loop-value-preserved g c = said_value _ _ _ _ _ _ c.loop-value.invariant (c.in_ok-if_listed.ensures (omega arith))
