@@ -56,7 +56,7 @@ pub fn store(board: Board, room: &mut [u32])
 }
 
 // Settles the domains, one for each cell, and chooses a move on them.
-#[tactic(auto, using(crate::specs::StepLaws::settles_whole, crate::specs::StepLaws::choosable, crate::specs::StepLaws::looked))]
+#[tactic(auto, using(crate::specs::StepLaws::settles_whole, crate::specs::StepLaws::choosable))]
 pub fn look(ties: Ties, board: Board, domains: &mut [u32], tables: &mut Tables<'_>) -> Advised
     requires { SoundBoard board × (length domains.old ≡ board.cells) }
     ensures domains_after { domains.new ≡ (settling (rows_of board) domains.old).left }

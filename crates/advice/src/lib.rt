@@ -4,7 +4,7 @@
 pub mod inner;
 
 ghost use Rattle.std.specs.Prelude.{◌≡◌, ◌≤◌, length};
-ghost use Rattle.sizes.specs.Sizes.{board_cells, table_size};
+ghost use Rattle.sizes.specs.Sizes.{board_cells};
 ghost use Rattle.listing.specs.Listing.{onto};
 ghost use Rattle.board.specs.Sound.{SoundBoard};
 ghost use Rattle.advice.specs.Advising.{Cleared, said_by, told, settled_of, said_of, advise_says, rooms, advise_leaves};

@@ -1,6 +1,6 @@
 // The search for the floors above, which have made sure that the board is sound and that the rooms lent are long enough.
-ghost use Rattle.std.specs.Prelude.{◌≡◌, ◌+◌, ◌-◌, ◌*◌, ◌^◌, ◌<◌, ◌≤◌, length, get_or, replicate};
-ghost use Rattle.sizes.specs.Sizes.{values, board_cells, table_size, stack_size};
+ghost use Rattle.std.specs.Prelude.{◌≡◌, ◌+◌, ◌-◌, ◌*◌, ◌^◌, ◌<◌, ◌≤◌, length, get_or};
+ghost use Rattle.sizes.specs.Sizes.{values, board_cells, stack_size};
 ghost use Rattle.board.specs.Sound.{SoundBoard};
 ghost use Rattle.settling.specs.Boards.{rows_of};
 ghost use Rattle.searching.specs.Searching.{lowest, lowests, cut_to, removed, searched};
