@@ -37,6 +37,7 @@ pub fn advise(
 {
     rooms_refuse(forward.len(), backward.len(), room.len())?;
     let Reading { outcome, board } = read(file);
+    // The project's form for this: `let .. else` and not `?`.
     let Ok(()) = outcome else {
         return Err(outcome.unwrap_err());
     };

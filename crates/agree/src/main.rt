@@ -80,7 +80,7 @@ fn over_rows(rows: u64, seed: u64) -> Tally {
 // One row, made from a number: how many values both strike, where they agree.
 fn one_row(x: u64, forward: &mut [u64], backward: &mut [u64]) -> Option<u64> {
     let a = stirred(x);
-    let kind = Kind::of(a);
+    let kind = Kind::from(a);
     let n = cells_of(a / KINDS);
     let mut weights = [0; ROW_CELLS];
     let mut domains = [0; ROW_CELLS];
@@ -91,8 +91,7 @@ fn one_row(x: u64, forward: &mut [u64], backward: &mut [u64]) -> Option<u64> {
         &weights[..n],
         &mut domains[..n],
         &mut again[..n],
-        limits.low,
-        limits.high,
+        limits,
         forward,
         backward,
     )
@@ -105,8 +104,8 @@ fn stirred(x: u64) -> u64 {
     b ^ (b << 17)
 }
 
-impl Kind {
-    fn of(x: u64) -> Kind {
+impl From<u64> for Kind {
+    fn from(x: u64) -> Kind {
         match x % KINDS {
             0 => Kind::Full,
             1 => Kind::Holes,
@@ -143,14 +142,12 @@ fn limits_of(kind: Kind, x: u64) -> Limits
 }
 
 // Weights and domains of every cell.
-fn make(weights: &mut [u8], domains: &mut [u32], kind: Kind, x: u64)
-    requires { length weights.old ≡ length domains.old }
-{
+fn make(weights: &mut [u8], domains: &mut [u32], kind: Kind, x: u64) {
     let mut y = x;
-    for i in 0..domains.len() {
+    for (w, d) in weights.iter_mut().zip(domains.iter_mut()) {
         y = stirred(y);
-        weights[i] = weight(kind, y);
-        domains[i] = domain(kind, y / 1024);
+        *w = weight(kind, y);
+        *d = domain(kind, y / 1024);
     }
 }
 
@@ -176,13 +173,13 @@ fn struck_alike(
     weights: &[u8],
     domains: &mut [u32],
     again: &mut [u32],
-    low: usize,
-    high: usize,
+    limits: Limits,
     forward: &mut [u64],
     backward: &mut [u64],
 ) -> Option<u64>
-    requires { SoundRow weights.now again.old low high }
+    requires { SoundRow weights.now again.old limits.low limits.high }
 {
+    let Limits { low, high } = limits;
     let counted = row::strike(weights, domains, low, high, forward, backward);
     let reached = reach::inner::strike(weights, again, low, high) as u64;
     if counted == Ok(reached) && *domains == *again {

@@ -4,7 +4,7 @@
 
 use digits::number_of;
 use inputs::{arg, arg_count};
-use sizes::{HIGHEST, ROW_CELLS, TABLE};
+use sizes::{HIGHEST, ROW_CELLS, TABLE, length_refuses, limits_refuse};
 use std::io::Write;
 use std::{fmt, io};
 use told::Refusal;
@@ -37,9 +37,9 @@ fn main(rt: HostRuntime) -> io::Result<()> {
     }
     let mut word = [0; 16];
     let n = arg(&rt, 1, &mut word);
-    let method = Method::named(&word[..n]);
+    let method = Method::from(&word[..n]);
     let n = arg(&rt, 2, &mut word);
-    let kind = Kind::named(&word[..n]);
+    let kind = Kind::from(&word[..n]);
     let n = arg(&rt, 3, &mut word);
     print_line(&mut out, method, kind, number_of(&word[..n]))
 }
@@ -58,15 +58,19 @@ fn print_line<W: Write>(out: &mut W, method: Method, kind: Kind, times: u64) -> 
     writeln!(out, "{method} {kind} {sum}")
 }
 
-impl Method {
-    fn named(word: &[u8]) -> Method {
+// By its name; any other word is taken for the last.
+impl From<&[u8]> for Method {
+    fn from(word: &[u8]) -> Method {
         match word {
             b"tables" => Method::Tables,
             b"strike" => Method::Strike,
             _ => Method::Reach,
         }
     }
+}
 
+impl Method {
+    // One turn. The parameters stand one by one, as the row calls have them; so in `over_row` and `by_reach`.
     fn once(
         self,
         weights: &[u8],
@@ -94,8 +98,9 @@ impl fmt::Display for Method {
     }
 }
 
-impl Kind {
-    fn named(word: &[u8]) -> Kind {
+// By its name; any other word is taken for the last.
+impl From<&[u8]> for Kind {
+    fn from(word: &[u8]) -> Kind {
         match word {
             b"full" => Kind::Full,
             b"eight" => Kind::Eight,
@@ -161,10 +166,10 @@ fn added(table: &[u64]) -> u64 {
 // Strikes by reachable sums, or answers 0 where it is no row.
 fn by_reach(weights: &[u8], domains: &mut [u32], low: usize, high: usize) -> u64 {
     let cells = domains.len();
-    if cells == 0 || ROW_CELLS < cells || weights.len() != cells {
+    if length_refuses(cells).is_err() || weights.len() != cells {
         return 0;
     }
-    if high < low || HIGHEST < high {
+    if limits_refuse(low, high).is_err() {
         return 0;
     }
     reach::inner::strike(weights, domains, low, high) as u64

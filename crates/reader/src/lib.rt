@@ -107,6 +107,7 @@ pub fn board_counts(file: &[u8]) -> Result<Counts, Refusal>
     ensures { told_counts result ≡ counts_say file.now }
 {
     let Reading { outcome, board } = read(file);
+    // The project's form for this: `let .. else` and not `?`.
     let Ok(()) = outcome else {
         return Err(outcome.unwrap_err());
     };
@@ -116,7 +117,7 @@ pub fn board_counts(file: &[u8]) -> Result<Counts, Refusal>
     })
 }
 
-// The number for no, or 0.
+// The number for no, or 0, as the exports answer it.
 pub fn refusal_of(outcome: Result<(), Refusal>) -> u8
     ensures { result ≡ refusal_of outcome }
 {
@@ -126,7 +127,8 @@ pub fn refusal_of(outcome: Result<(), Refusal>) -> u8
     }
 }
 
-// The byte at a place, and the numbers of two and four bytes that start there.
+// The byte at a place, and the numbers of two and four bytes that start there. The file and the place stand apart: a row is read at
+// several distances from its place, and a struct would be made anew for each.
 fn byte_at(file: &[u8], at: usize) -> usize
     requires { at < length file.now }
     ensures { (result ≡ byte file.now at) × (result < 256) }
@@ -148,7 +150,8 @@ fn four_at(file: &[u8], at: usize) -> u32
     u32::from_le_bytes([file[at], file[at + 1], file[at + 2], file[at + 3]])
 }
 
-// How many cells and how many rows the trailer says.
+// How many cells and how many rows the trailer says. That a file has one is asked here and of two tests: a struct that held it would
+// be made by each of its three callers.
 fn cells_in(file: &[u8]) -> usize
     requires { 6 ≤ length file.now }
     ensures { (result ≡ cells_in file.now) × (result < 256) }

@@ -98,13 +98,11 @@ fn domains_of(names: [usize; ROW_CELLS], room: [u32; BOARD_CELLS]) -> [u32; ROW_
 fn domain_of(cell: usize, room: [u32; BOARD_CELLS]) -> u32
     ensures { result ≡ domain_named room cell }
 {
-    if BOARD_CELLS <= cell {
-        return 0;
-    }
-    room[cell]
+    room.get(cell).copied().unwrap_or(0)
 }
 
-// The total of the row of the first len cells.
+// The total of the row of the first len cells, where there are so many; the parameters are the row's, as `row::total` has them. The number for
+// no is printed and not the refusal, whose Display promises no text.
 #[tactic(auto, unfolding(crate::specs::Reporting::total_of_text))]
 fn total_of<W: Write>(
     out: &mut W,

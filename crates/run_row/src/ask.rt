@@ -91,7 +91,7 @@ impl<'a> Row<'a> {
     }
 }
 
-// Strikes a row, and prints a line of the domains that are left.
+// Strikes a row, and prints a line of the domains that are left. The parameters stand one by one: `Row` only borrows its domains.
 pub fn strike<W: Write>(
     out: &mut W,
     words: &str,

@@ -190,7 +190,8 @@ fn lend<W: Write>(out: &mut W, name: &[u8], file: &[u8], lent: Lent) -> io::Resu
     )
 }
 
-// How many of a room's first n entries are this one.
+// How many of a room's first n entries are this one. The n stands beside the room: that a part of it can be lent was tried, and its bound
+// did not close.
 fn count(room: &[u32], n: usize, entry: u32) -> usize {
     room.iter().take(n).filter(|other| **other == entry).count()
 }

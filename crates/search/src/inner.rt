@@ -77,8 +77,9 @@ fn restore(domains: &mut [u32], stack: &mut [u32], h: usize)
     domains.copy_from_slice(&stack[at..at + n]);
 }
 
-// A search under way: what it still has to try are the domains and then the levels in use, last first. The tables are lent beside it,
-// since of a struct in another struct the check doesn't know afterwards which rooms it held.
+// A search under way: what it still has to try are the domains and then the levels in use, last first. The levels lie one after another in
+// the lent room, since a call allocates nothing. The tables are lent beside it, since of a struct in another struct the check doesn't know
+// afterwards which rooms it held.
 #[derive(Drop)]
 struct Descent<'a> {
     board: Board,

@@ -40,6 +40,7 @@ pub fn search(
 {
     lent_refuses(forward.len(), backward.len(), room.len(), stack.len())?;
     let Reading { outcome, board } = read(file);
+    // The project's form for this: `let .. else` and not `?`.
     let Ok(()) = outcome else {
         return Err(outcome.unwrap_err());
     };
