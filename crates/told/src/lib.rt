@@ -1,7 +1,7 @@
 // What a call may refuse, each reason by name, with its number in every answer.
 #![tactic(auto)]
 
-ghost use Rattle.std.specs.Prelude.{◌≡◌};
+ghost use Rattle.std.specs.Prelude.{◌≡◌, Some, decimal};
 ghost use Rattle.told.specs.Told.{number_of};
 
 use std::fmt;
@@ -66,7 +66,10 @@ impl Refusal {
     }
 }
 
+// Its number, as programs print it.
 impl fmt::Display for Refusal {
+    ghost output = { λ refusal. Some (decimal (number_of refusal)) };
+
     fn fmt<W: fmt::Write>(&self, f: &mut fmt::Formatter<W>) -> fmt::Result {
         let number = self.number();
         write!(f, "{number}")
