@@ -101,8 +101,7 @@ fn domain_of(cell: usize, room: [u32; BOARD_CELLS]) -> u32
     room.get(cell).copied().unwrap_or(0)
 }
 
-// The total of the row of the first len cells, where there are so many; the parameters are the row's, as `row::total` has them. The number for
-// no is printed and not the refusal, whose Display promises no text.
+// The total of the row of the first len cells, where there are so many; the parameters are the row's, as `row::total` has them.
 #[tactic(auto, unfolding(crate::specs::Reporting::total_of_text))]
 fn total_of<W: Write>(
     out: &mut W,
@@ -128,10 +127,7 @@ fn total_of<W: Write>(
         &mut backward,
     ) {
         Ok(total) => write!(out, " TOTAL {total}"),
-        Err(refusal) => {
-            let number = refusal.number();
-            write!(out, " REFUSED {number}")
-        }
+        Err(refusal) => write!(out, " REFUSED {refusal}"),
     }
 }
 
