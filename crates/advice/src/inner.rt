@@ -34,8 +34,9 @@ pub fn rooms_refuse(forward: usize, backward: usize, room: usize) -> Result<(), 
     Ok(())
 }
 
-// Settles a board in the room.
+// Settles a board in the room. Never inlined: its copies of the board are then no part of the frame of a search.
 #[tactic(auto, using(crate::specs::StepLaws::settled_onto, crate::specs::StepLaws::settled_of_lem))]
+#[inline(never)]
 pub fn settled(board: Board, room: &mut [u32]) -> Tally
     requires { SoundBoard board × (board.cells ≤ length room.old) }
     ensures room_after { room.new ≡ onto (settled_of board).left room.old }
@@ -55,8 +56,9 @@ pub fn store(board: Board, room: &mut [u32])
     room[..cells].copy_from_slice(&board.domains[..cells]);
 }
 
-// Settles the domains, one for each cell, and chooses a move on them.
+// Settles the domains, one for each cell, and chooses a move on them. Inlined: as a call of its own it holds two boards more on the stack.
 #[tactic(auto, using(crate::specs::StepLaws::settles_whole, crate::specs::StepLaws::choosable))]
+#[inline(always)]
 pub fn look(ties: Ties, board: Board, domains: &mut [u32], tables: &mut Tables<'_>) -> Advised
     requires { SoundBoard board × (length domains.old ≡ board.cells) }
     ensures domains_after { domains.new ≡ (settling (rows_of board) domains.old).left }

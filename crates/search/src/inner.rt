@@ -24,6 +24,16 @@ pub struct Ended {
     pub purse: Purse,
 }
 
+// Copies domains, place by place: of `copy_from_slice` the compiler makes a call of `memmove` here, which a caller in C need not have.
+fn copy(to: &mut [u32], from: &[u32])
+    requires { length to.old ≡ length from.now }
+    ensures { to.new ≡ from.now }
+{
+    for i in 0..to.len() {
+        to[i] = from[i];
+    }
+}
+
 // The domain cut to its lowest value, which of an empty one is 0.
 #[tactic(auto, using(crate::specs::StackLaws::lowest_bit, crate::specs::StackLaws::no_lowest_bit))]
 fn cut_to_lowest(domain: u32) -> u32
@@ -51,7 +61,7 @@ fn follow(domains: &mut [u32], level: &mut [u32], cell: usize, value: usize)
     ensures { (domains.new ≡ cut_to domains.old cell value) × (level.new ≡ removed domains.old cell value) }
 {
     let advised = 1 << value;
-    level.copy_from_slice(domains);
+    copy(level, domains);
     level[cell] -= advised;
     domains[cell] = advised;
 }
@@ -74,7 +84,7 @@ fn restore(domains: &mut [u32], stack: &mut [u32], h: usize)
 {
     let n = domains.len();
     let at = BOARD_CELLS * h;
-    domains.copy_from_slice(&stack[at..at + n]);
+    copy(domains, &stack[at..at + n]);
 }
 
 // A search under way: what it still has to try are the domains and then the levels in use, last first. The levels lie one after another in
@@ -82,13 +92,13 @@ fn restore(domains: &mut [u32], stack: &mut [u32], h: usize)
 // afterwards which rooms it held.
 #[derive(Drop)]
 struct Descent<'a> {
-    board: Board,
+    board: &'a Board,
     purse: Purse,
     levels: usize,
     domains: &'a mut [u32],
     stack: &'a mut [u32],
-    ghost sound: { SoundBoard board },
-    ghost cells: { length domains.now ≡ board.cells },
+    ghost sound: { SoundBoard board.now },
+    ghost cells: { length domains.now ≡ board.now.cells },
     ghost stack_room: { stack_size ≤ length stack.now },
     ghost purse_fits: { purse.left + purse.followed < 2 ^ 64 },
 }
@@ -96,14 +106,14 @@ struct Descent<'a> {
 impl Descent<'_> {
     // One look, and what follows from it: back to the last level saved, on from the advice, or the end.
     fn take_step(&mut self, tables: &mut Tables<'_>) -> Option<Ending>
-        requires { Roomy (rows_of self.old.board) (length self.old.domains.now) (trying self.old.levels self.old.domains.now self.old.stack.now) }
-        ensures stepped { Stepped (rows_of self.old.board) self.old.levels self.old.purse self.old.domains.now self.old.stack.now result self.new.levels self.new.purse self.new.domains.now self.new.stack.now }
+        requires { Roomy (rows_of self.old.board.now) (length self.old.domains.now) (trying self.old.levels self.old.domains.now self.old.stack.now) }
+        ensures stepped { Stepped (rows_of self.old.board.now) self.old.levels self.old.purse self.old.domains.now self.old.stack.now result self.new.levels self.new.purse self.new.domains.now self.new.stack.now }
         ensures same_board { self.new.board ≡ self.old.board }
         ensures same_rooms { (self.new.domains.ghost_name ≡ self.old.domains.ghost_name) × (self.new.stack.ghost_name ≡ self.old.stack.ghost_name) }
         ensures tables_after { Cleared tables.old tables.new }
     {
         // Ties go to the lowest value.
-        match look(Ties::Lowest, self.board, self.domains, tables).advice {
+        match look(Ties::Lowest, *self.board, self.domains, tables).advice {
             Advice::Dead => {
                 if self.levels == 0 {
                     return Some(Ending::None);
@@ -129,8 +139,8 @@ impl Descent<'_> {
 
     // Steps until the search is over; it begins with no level in use.
     fn to_end(&mut self, tables: &mut Tables<'_>) -> Ending
-        requires { (self.old.levels ≡ 0) × Playable (rows_of self.old.board) self.old.domains.now }
-        ensures comes { Comes self.old.purse (searched (rows_of self.old.board) self.old.domains.now) result self.new.purse self.new.domains.now }
+        requires { (self.old.levels ≡ 0) × Playable (rows_of self.old.board.now) self.old.domains.now }
+        ensures comes { Comes self.old.purse (searched (rows_of self.old.board.now) self.old.domains.now) result self.new.purse self.new.domains.now }
         ensures same_board { self.new.board ≡ self.old.board }
         ensures same_rooms { (self.new.domains.ghost_name ≡ self.old.domains.ghost_name) × (self.new.stack.ghost_name ≡ self.old.stack.ghost_name) }
         ensures tables_after { Cleared tables.old tables.new }
@@ -145,14 +155,14 @@ impl Descent<'_> {
 
 // The search from these domains, with so many choices; the stack is room for 64 levels.
 fn descend(
-    board: Board,
+    board: &Board,
     choices: u64,
     domains: &mut [u32],
     stack: &mut [u32],
     tables: &mut Tables<'_>,
 ) -> Ended
-    requires { SoundBoard board × (length domains.old ≡ board.cells) × (stack_size ≤ length stack.old) }
-    ensures comes { Came choices (searched (rows_of board) domains.old) result.ending result.purse domains.new }
+    requires { SoundBoard board.now × (length domains.old ≡ board.now.cells) × (stack_size ≤ length stack.old) }
+    ensures comes { Came choices (searched (rows_of board.now) domains.old) result.ending result.purse domains.new }
     ensures tables_after { Cleared tables.old tables.new }
 {
     let mut descent = Descent {
@@ -188,20 +198,20 @@ fn leave(board: Board, ending: Ending, domains: &mut [u32])
 
 // The whole search, on slices of just the sizes that it takes.
 fn run(
-    board: Board,
+    board: &Board,
     choices: u64,
     domains: &mut [u32],
     stack: &mut [u32],
     tables: &mut Tables<'_>,
 ) -> Ended
-    requires { SoundBoard board × (length domains.old ≡ board.cells) × (length stack.old ≡ stack_size) }
-    ensures ran { Ran board choices result.ending result.purse domains.new stack.new }
+    requires { SoundBoard board.now × (length domains.old ≡ board.now.cells) × (length stack.old ≡ stack_size) }
+    ensures ran { Ran board.now choices result.ending result.purse domains.new stack.new }
     ensures tables_after { Cleared tables.old tables.new }
 {
-    store(board, domains);
+    store(*board, domains);
     let ended = descend(board, choices, domains, stack, tables);
     stack.fill(0);
-    leave(board, ended.ending, domains);
+    leave(*board, ended.ending, domains);
     ended
 }
 
@@ -219,7 +229,7 @@ pub fn finish(
 {
     let cells = board.cells;
     run(
-        board,
+        &board,
         choices,
         &mut room[..cells],
         &mut stack[..STACK],

@@ -11,7 +11,7 @@ loop-ending-init c =
     let s = c.args.self.now in
     record {
       same_board = refl;
-      roomy = rw c.requires.0 (start_roomy (rows_of s.board) s.domains.now s.stack.now c.requires.1);
+      roomy = rw c.requires.0 (start_roomy (rows_of s.board.now) s.domains.now s.stack.now c.requires.1);
       same = rw c.requires.0 (start_same _ _ _ s.stack.now);
       purse_same = refl;
       same_rooms = (refl, refl);

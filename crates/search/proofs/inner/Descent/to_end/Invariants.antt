@@ -14,8 +14,8 @@ invariant-loop-ending l =
     let first = l.initial.self in
     record {
       same_board : s.board ≡ first.board;
-      roomy : Roomy (rows_of s.board) (length s.domains.now) (trying s.levels s.domains.now s.stack.now);
-      same : Same s.purse.left (search_all (rows_of s.board) (trying s.levels s.domains.now s.stack.now)) first.purse.left (searched (rows_of first.board) first.domains.now);
+      roomy : Roomy (rows_of s.board.now) (length s.domains.now) (trying s.levels s.domains.now s.stack.now);
+      same : Same s.purse.left (search_all (rows_of s.board.now) (trying s.levels s.domains.now s.stack.now)) first.purse.left (searched (rows_of first.board.now) first.domains.now);
       purse_same : s.purse.left + s.purse.followed ≡ first.purse.left + first.purse.followed;
       same_rooms : (s.domains.ghost_name ≡ first.domains.ghost_name) × (s.stack.ghost_name ≡ first.stack.ghost_name);
       kept : Kept l.initial.tables l.tables;
