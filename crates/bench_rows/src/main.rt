@@ -54,8 +54,10 @@ fn every_line<W: Write>(out: &mut W) -> io::Result<()> {
 }
 
 fn print_line<W: Write>(out: &mut W, method: Method, kind: Kind, times: u64) -> io::Result<()> {
+    // before the turns: an output that takes nothing ends the program at once
+    write!(out, "{method} {kind} ")?;
     let sum = over_kind(method, kind, times);
-    writeln!(out, "{method} {kind} {sum}")
+    writeln!(out, "{sum}")
 }
 
 // By its name; any other word is taken for the last.
