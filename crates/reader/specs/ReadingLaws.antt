@@ -32,5 +32,5 @@ pub said_read : (file : List ℕ) (board : Board) (outcome : Result (Unit {0}) R
 said_read file board outcome r e = says_back (file_refuses file) (board_in file) board (rw r at e)
 
 pub said_refused : (file : List ℕ) (board : Board) (outcome : Result (Unit {0}) Refusal) (refusal : Refusal) → outcome ≡ Err refusal → told outcome board ≡ read_says file
-    → number_of refusal ≡ file_refuses file
-said_refused file board outcome refusal r e = (refused_back (file_refuses file) (number_of refusal) (board_in file) (rw r at e)).0
+    → (number_of refusal ≡ file_refuses file) × (number_of refusal ≡ 0 → ⊥)
+said_refused file board outcome refusal r e = refused_back (file_refuses file) (number_of refusal) (board_in file) (rw r at e)
