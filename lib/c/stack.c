@@ -39,13 +39,26 @@ static void *advise(void *unused)
     return unused;
 }
 
+static void search_to(int ending)
+{
+    if (tanglepunt_search(file, length, &choices, room, TANGLEPUNT_ROOM, levels, TANGLEPUNT_STACK, forward,
+                          TANGLEPUNT_TABLE, backward, TANGLEPUNT_TABLE)
+            .ending != ending)
+        abort();
+}
+
 static void *search(void *unused)
 {
     choices = 64;
-    if (tanglepunt_search(file, length, &choices, room, TANGLEPUNT_ROOM, levels, TANGLEPUNT_STACK, forward,
-                          TANGLEPUNT_TABLE, backward, TANGLEPUNT_TABLE)
-            .ending != TANGLEPUNT_SOLVED)
-        abort();
+    search_to(TANGLEPUNT_SOLVED);
+    return unused;
+}
+
+/* One that ends so settles the board once more. */
+static void *search_spent(void *unused)
+{
+    choices = 63;
+    search_to(TANGLEPUNT_SPENT);
     return unused;
 }
 
@@ -75,7 +88,7 @@ int main(void)
     make_board(1);
     const size_t deep = taken(search) - thread;
     const uint64_t all = 64 - choices;
-    printf("machine stack: advise %zu bytes, search %zu with %d choices and %zu with %d\n", taken(advise) - thread, shallow,
-           (int)none, deep, (int)all);
+    printf("machine stack: advise %zu bytes, search %zu with %d choices and %zu with %d, spent %zu\n", taken(advise) - thread,
+           shallow, (int)none, deep, (int)all, taken(search_spent) - thread);
     return none == 0 && all == 64 && shallow == deep ? 0 : 1;
 }

@@ -77,7 +77,7 @@ fn write_long<W: Write>(out: &mut W, file: &[u8], board: Board) -> io::Result<()
 // Whether the room begins with the file and is fresh after it.
 fn is_kept(file: &[u8], room: &[u8]) -> bool {
     match room.strip_prefix(file) {
-        Some(rest) => rest.iter().all(|byte| *byte == FRESH),
+        Some(rest) => [FRESH; MOST].ends_with(rest),
         None => false,
     }
 }
