@@ -87,7 +87,7 @@ fn write_short<W: Write>(out: &mut W, size: usize, board: Board) -> io::Result<(
     let mut room = [FRESH; MOST];
     write!(out, ", ONE BYTE SHORT")?;
     write_in(out, &mut room, size.saturating_sub(1), board)?;
-    say_if(out, room != [FRESH; MOST], " CHANGED")
+    say_if(out, !is_kept(&[], &room), " CHANGED")
 }
 
 // Writes into the first size bytes of the room.
