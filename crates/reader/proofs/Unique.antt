@@ -10,9 +10,13 @@ use types.Logic.{Logic}
 use contract.Lifetimes.{Lfts}
 use contract.Monad.{Fun, fact, fact_i, fact_use}
 use denote.Ref.{Bor}
+use denote.RattleType.{RattleType}
+use denote.Param.Laws.{Laws, IsCopy}
+use mir.Syntax.{Dict}
 use denote.Triple.Clauses.{Ended, Clauses, AtExit}
 use denote.Triple.Entry.{Args, Res}
 use Rattle.std.specs.Prelude.{Result, Ok, Err}
+use Rattle.std.specs.declared.clone.Clone as Clone
 use Rattle.told.specs.declared.Refusal.{Refusal}
 use Rattle.told.specs.Told.{Told, refused, says, told as plain}
 use Rattle.told.proofs.ToldLaws.{same_told, same_told_by}
@@ -21,6 +25,7 @@ use Rattle.board.specs.declared.Board.{Board}
 use Rattle.reader.specs.declared.Reading.{Reading}
 use Rattle.reader.specs.declared.FileReader.{FileReader}
 use Rattle.reader.specs.declared.Counts.{Counts}
+use Rattle.reader.specs.declared.Numbered as Numbered
 use Rattle.reader.specs.Reading.{told, read_says, read_keeps}
 use Rattle.reader.specs.File.{trailer}
 use Rattle.reader.proofs.read.Reads as read
@@ -101,8 +106,10 @@ counts_back counts = refl
 pub board_counts_alone : NoSecondAnswer 1 board-counts-kinds.ps board-counts-kinds.r board-counts.Post (λ κs e. tt {0})
 board_counts_alone κs a x y e f p q = (same_told_by (λ c. (c.cells, c.rows)) counts_of counts_back p q, refl)
 
-pub refusal_of_alone : NoSecondAnswer 0 refusal-of-kinds.ps refusal-of-kinds.r refusal-of.Post (λ κs e. tt {0})
-refusal_of_alone κs a x y e f p q = (p ∙ sym q, refl)
+-- of every error that is Numbered; what else a call hands over with its type, the contract doesn't read
+pub refusal_of_alone : (E : RattleType) (laws : Laws E) (copy : IsCopy E) (numbered : Numbered.Ghosts E.Denot) (code : Dict) (clone : Clone.Ghosts E.Denot) (clone_code : Dict)
+    → NoSecondAnswer 1 (refusal-of-kinds.ps E laws copy) (refusal-of-kinds.r E laws copy) (refusal-of.Post E laws copy numbered code clone clone_code) (λ κs e. tt {0})
+refusal_of_alone E laws copy numbered code clone clone_code κs a x y e f p q = (p ∙ sym q, refl)
 
 pub trailer_place_alone : NoSecondAnswer 1 trailer-place-kinds.ps trailer-place-kinds.r trailer-place.Post (λ κs e. tt {0})
 trailer_place_alone κs a x y e f p q = (p ∙ sym q, refl)

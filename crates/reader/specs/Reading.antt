@@ -1,7 +1,7 @@
 -- What the reader refuses, in document 01's order, and what it says and keeps. Definitions only.
 use Rattle.std.specs.Prelude.{List, not, ℕ, ◌+◌, ◌*◌, length, eqb, ltb, Result, Ok, Err}
 use Rattle.told.specs.declared.Refusal.{Refusal}
-use Rattle.told.specs.Told.{Told, refused, says, when, first, firsts, answer, leave, number_of, told_by, refusal_in}
+use Rattle.told.specs.Told.{Told, refused, says, when, first, firsts, answer, leave, number_of, told_by}
 use Rattle.sizes.specs.Sizes.{file_size}
 use Rattle.board.specs.declared.Board.{Board}
 use Rattle.board.specs.Board.{mark, zero_board}
@@ -63,9 +63,13 @@ read_says file = answer (file_refuses file) (board_in file)
 abbrev pub read_keeps : List ℕ → Board
 read_keeps file = leave (file_refuses file) zero_board (board_in file)
 
--- the number for no, or 0
+-- the number for no, or 0, where `number` says which one an error stands for; and of a refusal
+abbrev pub refusal_by : {E : Type 0} → (E → ℕ) → Result (Unit {0}) E → ℕ
+refusal_by number (Ok _) = 0
+refusal_by number (Err error) = number error
+
 abbrev pub refusal_of : Result (Unit {0}) Refusal → ℕ
-refusal_of outcome = refusal_in outcome
+refusal_of outcome = refusal_by number_of outcome
 
 -- document 01's number, or the number of cells and the number of rows
 abbrev pub told_counts : Result Counts Refusal → Told (ℕ × ℕ)

@@ -1,12 +1,12 @@
 // Reads a board file: from any bytes to a board, or to why there is none.
 #![tactic(auto)]
 
-ghost use Rattle.std.specs.Prelude.{◌≡◌, ◌+◌, ◌*◌, ◌≤◌, ◌<◌, length};
-ghost use Rattle.told.specs.Told.{refusal_in};
+ghost use Rattle.std.specs.Prelude.{◌≡◌, ℕ, ◌+◌, ◌*◌, ◌≤◌, ◌<◌, length};
+ghost use Rattle.told.specs.Told.{number_of, refusal_in};
 ghost use Rattle.sizes.specs.Sizes.{row_cells, board_cells};
 ghost use Rattle.board.specs.Board.{filled};
 ghost use Rattle.reader.specs.File.{byte, two, four, trailer, file_at, cells_in, domain_in, row_in, row_end, rows_in, lines_in, board_in};
-ghost use Rattle.reader.specs.Reading.{size_refuses, mark_refuses, start_refuses, trailer_refuses, row_in_refuses, rest_refuses, rows_refuse, file_refuses, told, read_says, read_keeps, refusal_of, told_counts, counts_say};
+ghost use Rattle.reader.specs.Reading.{size_refuses, mark_refuses, start_refuses, trailer_refuses, row_in_refuses, rest_refuses, rows_refuse, file_refuses, told, read_says, read_keeps, refusal_by, told_counts, counts_say};
 
 use board::inner::{head_refuses, pairs_refuse, sizes_refuse, zero_board, zero_row};
 use board::{Board, MARK, Row};
@@ -117,13 +117,37 @@ pub fn board_counts(file: &[u8]) -> Result<Counts, Refusal>
     })
 }
 
+// What stands for a number for no: a refusal for its own, a byte for itself. It is Copy, so no &mut goes in with it.
+pub trait Numbered: Copy {
+    ghost number_for_no: { Self → ℕ };
+
+    fn number_for_no(self) -> u8
+        ensures { result ≡ number_for_no self };
+}
+
+impl Numbered for Refusal {
+    ghost number_for_no = { number_of };
+
+    fn number_for_no(self) -> u8 {
+        Refusal::number(self)
+    }
+}
+
+impl Numbered for u8 {
+    ghost number_for_no = { λ byte. byte };
+
+    fn number_for_no(self) -> u8 {
+        self
+    }
+}
+
 // The number for no, or 0, as the exports answer it.
-pub fn refusal_of(outcome: Result<(), Refusal>) -> u8
-    ensures { result ≡ refusal_of outcome }
+pub fn refusal_of<E: Numbered>(outcome: Result<(), E>) -> u8
+    ensures { result ≡ refusal_by E.number_for_no outcome }
 {
     match outcome {
         Ok(()) => 0,
-        Err(refusal) => refusal.number(),
+        Err(error) => error.number_for_no(),
     }
 }
 
