@@ -18,7 +18,7 @@ use Rattle.board.specs.declared.Row.{Row as Line}
 use Rattle.board.specs.declared.Board.{Board}
 use Rattle.board.specs.Board.{row_at}
 use Rattle.board.specs.Sound.{SoundLine, SoundBoard}
-use Rattle.settling.specs.Settling.{Row, ◌∈◌, Supported, gather}
+use Rattle.settling.specs.Settling.{Row, ◌∈◌, Fits, Supported, gather}
 use Rattle.settling.specs.Cells.{gather_length}
 use Rattle.settling.specs.Boards.{row_with, row_of, rows_to, rows_of}
 use Rattle.settling.proofs.BoardLaws.{row_fronts, sound_fits}
@@ -27,10 +27,10 @@ use Rattle.layers.specs.Tables.{forward_table, backward_table}
 use Rattle.layers.specs.TableLaws.{forward_length, backward_length, holds_onto}
 use Rattle.beat.specs.declared.Ties.{Ties}
 use Rattle.beat.specs.declared.Candidate.{Candidate as Cand}
-use Rattle.choosing.specs.Choosing.{Candidate, candidate, no_row, domain_at, of_place, of_row, candidates}
+use Rattle.choosing.specs.Choosing.{Candidate, Ties as Order, candidate, no_row, domain_at, of_place, of_row, candidates}
 use Rattle.choosing.specs.Choosing as choosing
-use Rattle.choosing.specs.Going.{nobody, through}
-use Rattle.choosing.proofs.GoingLaws.{through_none, through_start, through_turn}
+use Rattle.choosing.specs.Going.{Leader, nobody, through}
+use Rattle.choosing.proofs.GoingLaws.{through_none, through_start, through_turn, through_end}
 use Rattle.choosing.proofs.CandidateLaws.{of_value, place_several, place_few}
 use Rattle.beat.specs.Beat.{ties_of, candidate_of, leader_of}
 use Rattle.choose.specs.declared.best.Best.{Best}
@@ -95,18 +95,26 @@ module _ (f : ℕ → List Candidate) (b : Best) where
 pub after_none : (ties : Ties) (b r : Best) (xs : List Candidate) → b.ties ≡ ties → b.leader ≡ None → After b xs r → leader_of r.leader ≡ through (ties_of ties) nobody xs
 after_none ties b r xs e h a = rw (e, h) at a.leader
 
--- ---- the values of a place: too few to choose from, or gone through
+-- ---- the values of a place: n of them, too few to choose from, or gone through
 
+module _ (o : Order) (b : Leader) (i : ℕ) (r : Row) (d : List ℕ) (p n : ℕ) (e : n ≡ length (listed (domain_at r d p))) where
+  pub few_values : n < 2 → b ≡ through o b (of_place i r d p)
+  few_values h = through_none o b ∙ ap (through o b) (place_few i r d p (omega arith))
+
+  pub many_values : 2 ≤ n → (l : Leader) (v : ℕ) → v ≤ values → values ≤ v → l ≡ through o b (flat_map (of_value i r d p) (below v)) → l ≡ through o b (of_place i r d p)
+  many_values h l v k m q = through_end o (of_value i r d p) b v values l k m q ∙ ap (through o b) (place_several i r d p (omega arith))
+
+-- what they bring to the best so far
 module _ (b : Best) (i : ℕ) (r : Row) (d : List ℕ) (p : ℕ) where
-  pub few_values : length (listed (domain_at r d p)) < 2 → After b (of_place i r d p) b
-  few_values h =
-      record {
-        same_ties = refl;
-        leader = through_none (ties_of b.ties) (leader_of b.leader) ∙ ap (through (ties_of b.ties) (leader_of b.leader)) (place_few i r d p (omega arith));
-      }
+  pub few_after : length (listed (domain_at r d p)) < 2 → After b (of_place i r d p) b
+  few_after h = record { same_ties = refl; leader = few_values (ties_of b.ties) (leader_of b.leader) i r d p _ refl h }
 
-  pub many_values : 2 ≤ length (listed (domain_at r d p)) → (l : Best) → After b (flat_map (of_value i r d p) (below values)) l → After b (of_place i r d p) l
-  many_values h l e = rw (place_several i r d p (omega arith)) at e
+  pub many_after : 2 ≤ length (listed (domain_at r d p)) → (l : Best) → After b (flat_map (of_value i r d p) (below values)) l → After b (of_place i r d p) l
+  many_after h l e =
+      record {
+        same_ties = e.same_ties;
+        leader = many_values (ties_of b.ties) (leader_of b.leader) i r d p _ refl h (leader_of l.leader) values (omega arith) (omega arith) e.leader;
+      }
 
 -- ---- the code's candidate of a value
 
@@ -122,6 +130,37 @@ module _ (x : Cand) (i : ℕ) (r : Row) (d : List ℕ) (p v : ℕ) (e : candidat
 
 -- ---- a row whose domains were gathered, and its tables filled
 
+module _ (r : Row) (d held part forward backward f g : List ℕ) (fits : Fits (length d) r) (sound : SoundRow r.weights held r.low r.high) where
+  sound_part : part ≡ gather d r.cells → SoundRow r.weights part r.low r.high
+  sound_part e =
+      let same : length part ≡ length held = ap length e ∙ gather_length d r.cells ∙ sym fits.lengths ∙ sound.same in
+      record { some = omega (arith, sound.some); most = omega (arith, sound.most); same = sound.same ∙ sym same; ordered = sound.ordered; limit = sound.limit }
+
+  -- it is ready
+  pub fill_ready : (total : ℕ) → Supported d r → part ≡ gather d r.cells
+      → (total ≡ counted r.weights part r.low r.high)
+      × ((f ≡ onto (forward_table r.weights part) forward) × (g ≡ onto (backward_table r.weights part r.low r.high) backward))
+      → Ready r d part total f g
+  fill_ready total supported e filled =
+      record {
+        fits = fits;
+        supported = supported;
+        part_is = e;
+        total_is = filled.0 ∙ ap (λ (ds : List ℕ). counted r.weights ds r.low r.high) e;
+        filled = record { sound = sound_part e; forwards = holds_onto _ forward f filled.1.0; backwards = holds_onto _ backward g filled.1.1 };
+      }
+
+  -- and the tables are kept
+  pub fill_kept : table_size ≤ length forward → table_size ≤ length backward → part ≡ gather d r.cells
+      → (f ≡ onto (forward_table r.weights part) forward) × (g ≡ onto (backward_table r.weights part r.low r.high) backward)
+      → SameRest forward f × SameRest backward g
+  fill_kept long wide e filled =
+      let most = (sound_part e).most in (
+        filled_kept _ forward f (length part) (forward_length r.weights part) most long filled.0,
+        filled_kept _ backward g (length part) (backward_length r.weights part r.low r.high) most wide filled.1,
+      )
+
+-- the same of the front of a row's record
 module _ (line : Line) (d part forward backward f g : List ℕ) (sound : SoundLine (length d) line) (n : line.len ≤ length line.names) (m : line.len ≤ length line.weights)
     (gathered : part ≡ gather d (take line.len line.names))
     (forwards : f ≡ onto (forward_table (take line.len line.weights) part) forward)
@@ -132,8 +171,11 @@ module _ (line : Line) (d part forward backward f g : List ℕ) (sound : SoundLi
   fronts : row ≡ row_of line
   fronts = row_fronts line n m
 
-  sound_part : SoundRow row.weights part line.low line.high
-  sound_part =
+  fits_front : Fits (length d) row
+  fits_front = rw fronts (sound_fits _ line sound)
+
+  sound_front : SoundRow row.weights part line.low line.high
+  sound_front =
       let long : length part ≡ line.len = ap length gathered ∙ gather_length d row.cells ∙ length-take-le line.len line.names n in
       record {
         some = omega (arith, sound.head.some);
@@ -143,23 +185,13 @@ module _ (line : Line) (d part forward backward f g : List ℕ) (sound : SoundLi
         limit = sound.head.limit;
       }
 
-  -- it is ready
-  pub fill_ready : (total : ℕ) → Supported d (row_of line) → total ≡ counted row.weights part line.low line.high → Ready row d part total f g
-  fill_ready total supported e =
-      record {
-        fits = rw fronts (sound_fits _ line sound);
-        supported = subst (λ (r : Row). Supported d r) (sym fronts) supported;
-        part_is = gathered;
-        total_is = e ∙ ap (λ (ds : List ℕ). counted row.weights ds line.low line.high) gathered;
-        filled = record { sound = sound_part; forwards = holds_onto _ forward f forwards; backwards = holds_onto _ backward g backwards };
-      }
+  pub line_ready : (total : ℕ) → Supported d (row_of line) → total ≡ counted row.weights part line.low line.high → Ready row d part total f g
+  line_ready total supported e =
+      let kept = subst (λ (r : Row). Supported d r) (sym fronts) supported in
+      fill_ready row d part part forward backward f g fits_front sound_front total kept gathered (e, (forwards, backwards))
 
-  -- and the tables are kept
-  pub fill_kept : table_size ≤ length forward → table_size ≤ length backward → SameRest forward f × SameRest backward g
-  fill_kept long wide = (
-    filled_kept _ forward f (length part) (forward_length row.weights part) sound_part.most long forwards,
-    filled_kept _ backward g (length part) (backward_length row.weights part line.low line.high) sound_part.most wide backwards,
-  )
+  pub line_kept : table_size ≤ length forward → table_size ≤ length backward → SameRest forward f × SameRest backward g
+  line_kept long wide = fill_kept row d part part forward backward f g fits_front sound_front long wide gathered (forwards, backwards)
 
 -- ---- the rows of a board's record
 

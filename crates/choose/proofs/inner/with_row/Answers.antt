@@ -6,7 +6,7 @@ use borrow.Author.Rules.{rules}
 use lib.ListN.{length}
 use Rattle.sizes.specs.Sizes.{row_cells}
 use Rattle.settling.proofs.BoardLaws.{row_fronts}
-use Rattle.choose.specs.StepLaws.{fill_ready, fill_kept}
+use Rattle.choose.specs.StepLaws.{line_ready, line_kept}
 use Rattle.choose.proofs.inner.with_row.Goals as goal
 use Rattle.choose.proofs.inner.with_row.Goals.{Start}
 
@@ -22,7 +22,7 @@ invariant_of-row c =
     let s = (goal.at.invariant_of-row c).Start in
     let k = c.fill-total.ensures in
     record {
-      ready = fill_ready c.args.line _ _ _ _ _ _ c.requires.0 (names_fit s) (weights_fit s) c.gather_row.ensures k.forward_after k.backward_after _ c.requires.1 k.value;
+      ready = line_ready c.args.line _ _ _ _ _ _ c.requires.0 (names_fit s) (weights_fit s) c.gather_row.ensures k.forward_after k.backward_after _ c.requires.1 k.value;
     }
 
 pub returns-clause-after : goal.returns-clause-after
@@ -34,5 +34,5 @@ returns-clause-kept c =
     let s = (goal.at.returns-clause-kept c).Start in
     let k = c.fill-total.ensures in
     let rooms = c.args.tables.now.rooms in
-    let rest = fill_kept c.args.line _ _ _ _ _ _ c.requires.0 (names_fit s) (weights_fit s) c.gather_row.ensures k.forward_after k.backward_after rooms.0 rooms.1 in
+    let rest = line_kept c.args.line _ _ _ _ _ _ c.requires.0 (names_fit s) (weights_fit s) c.gather_row.ensures k.forward_after k.backward_after rooms.0 rooms.1 in
     record { rooms = k.same_rooms; forward = rest.0; backward = rest.1 }

@@ -6,7 +6,7 @@ use Rattle.choosing.specs.Choosing.{Candidate}
 use Rattle.choosing.proofs.CandidateLaws.{of_value}
 use Rattle.settling.specs.Settling.{Row}
 use Rattle.choose.specs.Rows.{line_of}
-use Rattle.choose.specs.StepLaws.{after_start, after_turn, after_end, few_values, many_values, candidate_live, candidate_brings}
+use Rattle.choose.specs.StepLaws.{after_start, after_turn, after_end, few_after, many_after, candidate_live, candidate_brings}
 use Rattle.choose.proofs.ready.ReadyRow.with_place.Goals as goal
 use Rattle.choose.proofs.ready.ReadyRow.with_place.Goals.{Start}
 
@@ -18,7 +18,7 @@ abbrev brings : Start → ℕ → List Candidate
 brings c = of_value c.args.self.row (row c) c.args.self.domains.now c.args.p
 
 pub returns-then-values_in-lt2 : goal.returns-then-values_in-lt2
-returns-then-values_in-lt2 c = few_values _ _ _ _ _ (omega arith)
+returns-then-values_in-lt2 c = few_after _ _ _ _ _ (omega arith)
 
 pub loop-v-init : goal.loop-v-init
 loop-v-init c = after_start (brings (goal.at.loop-v-init c).Start) _
@@ -36,4 +36,4 @@ loop-v-preserved c =
 pub returns : goal.returns
 returns c =
     let s = (goal.at.returns c).Start in
-    many_values _ _ (row s) _ _ (omega arith) _ (after_end (brings s) _ c.loop-v.v _ _ (omega arith) (omega arith) c.loop-v.invariant)
+    many_after _ _ (row s) _ _ (omega arith) _ (after_end (brings s) _ c.loop-v.v _ _ (omega arith) (omega arith) c.loop-v.invariant)
