@@ -1,4 +1,4 @@
--- No second answer fits the contract of `read`, its board among it, of `read_at`, `read_from`, `begin` or `trailer_place`, of `board_counts`, or of `refusal_of`. Assumes nothing.
+-- No second answer fits the contract of `read`, its board among it, of `read_at`, `read_from`, `begin` or `trailer_place`, of `board_counts`, of `refusal_of`, or of `number_for_no`. Assumes nothing.
 use mathlib.Core.Path.{◌≡◌, refl, sym, ap, ◌∙◌}
 use Prim.Native.Nat.{ℕ}
 use mathlib.Core.List.{List}
@@ -40,6 +40,10 @@ use Rattle.reader.proofs.trailer_place.Reads as trailer-place
 use Rattle.reader.proofs.trailer_place.Kinds as trailer-place-kinds
 use Rattle.reader.proofs.refusal_of.Reads as refusal-of
 use Rattle.reader.proofs.refusal_of.Kinds as refusal-of-kinds
+use Rattle.reader.proofs.RefusalNumbered.number_for_no.Reads as refusal-number
+use Rattle.reader.proofs.RefusalNumbered.number_for_no.Kinds as refusal-number-kinds
+use Rattle.reader.proofs.U8Numbered.number_for_no.Reads as byte-number
+use Rattle.reader.proofs.U8Numbered.number_for_no.Kinds as byte-number-kinds
 
 same_parts : {o p : Result (Unit {0}) Refusal} {b d : Board} → o ≡ p → b ≡ d → ◌≡◌ {A = Reading} (record { outcome = o; board = b }) (record { outcome = p; board = d })
 same_parts o b = rw (o, b)
@@ -110,6 +114,12 @@ board_counts_alone κs a x y e f p q = (same_told_by (λ c. (c.cells, c.rows)) c
 pub refusal_of_alone : (E : RattleType) (laws : Laws E) (copy : IsCopy E) (numbered : Numbered.Ghosts E.Denot) (code : Dict) (clone : Clone.Ghosts E.Denot) (clone_code : Dict)
     → NoSecondAnswer 1 (refusal-of-kinds.ps E laws copy) (refusal-of-kinds.r E laws copy) (refusal-of.Post E laws copy numbered code clone clone_code) (λ κs e. tt {0})
 refusal_of_alone E laws copy numbered code clone clone_code κs a x y e f p q = (p ∙ sym q, refl)
+
+pub refusal_number_alone : NoSecondAnswer 0 refusal-number-kinds.ps refusal-number-kinds.r refusal-number.Post (λ κs e. tt {0})
+refusal_number_alone κs a x y e f p q = (p ∙ sym q, refl)
+
+pub byte_number_alone : NoSecondAnswer 0 byte-number-kinds.ps byte-number-kinds.r byte-number.Post (λ κs e. tt {0})
+byte_number_alone κs a x y e f p q = (p ∙ sym q, refl)
 
 pub trailer_place_alone : NoSecondAnswer 1 trailer-place-kinds.ps trailer-place-kinds.r trailer-place.Post (λ κs e. tt {0})
 trailer_place_alone κs a x y e f p q = (p ∙ sym q, refl)

@@ -1,8 +1,8 @@
 -- What a file that `read` accepts and its board are known to be, and what a caller knows that takes the answer apart. Assumes nothing.
-use Rattle.std.specs.Prelude.{◌≡◌, List, ℕ, ◌≤◌, ◌<◌, length, Result, Ok, Err}
+use Rattle.std.specs.Prelude.{◌≡◌, refl, List, ℕ, ◌≤◌, ◌<◌, length, Result, Ok, Err}
 use Rattle.std.proofs.Common.{sym, ◌∙◌}
 use Rattle.told.specs.declared.Refusal.{Refusal}
-use Rattle.told.specs.Told.{number_of}
+use Rattle.told.specs.Told.{number_of, refusal_in}
 use Rattle.told.proofs.ToldLaws.{firsts_zero, refused_back, says_back}
 use Rattle.sizes.specs.Sizes.{board_rows, file_size}
 use Rattle.board.specs.Refusals.{line_refuses, board_refuses}
@@ -10,7 +10,7 @@ use Rattle.board.specs.declared.Board.{Board}
 use Rattle.board.specs.Board.{zero_row, blank_row}
 use Rattle.board.specs.BoardLaws.{filled_at}
 use Rattle.reader.specs.File.{cells_in, rows_in, row_place, line_in, lines_in, board_in}
-use Rattle.reader.specs.Reading.{file_refuses, told, read_says}
+use Rattle.reader.specs.Reading.{file_refuses, told, read_says, refusal_of}
 use Rattle.reader.specs.FileLaws.{file_sound, row_in_fits}
 
 -- an accepted file is at most 1,062 bytes
@@ -34,3 +34,8 @@ said_read file board outcome r e = says_back (file_refuses file) (board_in file)
 pub said_refused : (file : List ℕ) (board : Board) (outcome : Result (Unit {0}) Refusal) (refusal : Refusal) → outcome ≡ Err refusal → told outcome board ≡ read_says file
     → (number_of refusal ≡ file_refuses file) × (number_of refusal ≡ 0 → ⊥)
 said_refused file board outcome refusal r e = refused_back (file_refuses file) (number_of refusal) (board_in file) (rw r at e)
+
+-- the number of what was refused is that of a test for refusals
+pub refusal_of_test : (outcome : Result (Unit {0}) Refusal) → refusal_of outcome ≡ refusal_in outcome
+refusal_of_test (Ok u) = refl
+refusal_of_test (Err refusal) = refl
